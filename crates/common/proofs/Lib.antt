@@ -1,0 +1,2 @@
+-- Laws of the definitions that every layer cites.
+pub mod Places
