@@ -1,0 +1,3 @@
+-- Recipes as trees.
+pub mod Tree
+pub mod Calls

@@ -1,0 +1,1 @@
+// Trees and the table of calls: definitions. No code.
