@@ -1,3 +1,4 @@
 -- Recipes as trees.
 pub mod Tree
 pub mod Calls
+pub mod Bounds
