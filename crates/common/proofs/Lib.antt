@@ -1,2 +1,3 @@
 -- Laws of the definitions that every layer cites.
 pub mod Places
+pub mod Runs

@@ -1,0 +1,2 @@
+-- A column mixed by lookups.
+pub mod Table

@@ -1,0 +1,1 @@
+// A column mixed by lookups in a lent table.

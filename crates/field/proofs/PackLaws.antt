@@ -1,0 +1,102 @@
+-- Bytes and the numbers that they make: each undoes the other, and xor passes through.
+use mathlib.Core.Path.{_≡_, refl, sym, ap, ap₂, _∙_, subst}
+use Prim.Native.Nat.{ℕ, zero, suc, _+_, _*_, _/_, _%_, _^_, _<_, _≤_}
+use native.Mathlib.Nat.{mod-lt, div-one, pow-suc, pow-succ', div-div-eq-div-mul, div-add-mod', div-lt-iff-lt-mul, not-suc-le-zero, zero-lt-suc, le-of-suc-le-suc, zero-mul}
+use native.Mathlib.Numerals.{}
+use native.Mathlib.Omega.{arith}
+use lib.Arith.{digits-lt, digits-div, digits-mod}
+use Rattle.field.specs.Xor.{xor}
+use Rattle.field.specs.Mixing.{xsum}
+use Rattle.field.specs.Column.{byteOf, pack}
+use Rattle.field.specs.Field.{times}
+use Rattle.field.specs.Mixing.{product, coef}
+use mathlib.Core.List.{List}
+use Rattle.field.proofs.XorLaws as X
+use Rattle.field.proofs.FieldLaws.{times-lt}
+
+abbrev pub AllBytes : ℕ → (ℕ → ℕ) → Type 0
+AllBytes n f = (i : ℕ) → i < n → f i < 256
+
+zlt : (n : ℕ) → 0 < suc n
+zlt n = zero-lt-suc n
+
+up : {i n : ℕ} → i < n → suc i < suc n
+up h = omega arith
+
+pub byteOf-lt : (w i : ℕ) → byteOf w i < 256
+unfolding byteOf
+byteOf-lt w i = mod-lt _ (omega arith)
+
+pub byteOf-zero : (w : ℕ) → byteOf w 0 ≡ w % 256
+unfolding byteOf
+byteOf-zero w = ap (λ x. x % 256) (div-one w)
+
+pub byteOf-suc : (w i : ℕ) → byteOf w (suc i) ≡ byteOf (w / 256) i
+unfolding byteOf
+byteOf-suc w i = ap (λ x. x % 256) (ap (λ x. w / x) (pow-succ' 256 i) ∙ sym (div-div-eq-div-mul w 256 (256 ^ i)))
+
+pub pack-ext : (n : ℕ) (f g : ℕ → ℕ) → ((i : ℕ) → i < n → f i ≡ g i) → pack n f ≡ pack n g
+unfolding pack
+pack-ext zero f g h = refl
+pack-ext (suc n) f g h = ap₂ (λ (x y : ℕ). x * 256 + y) (pack-ext n (λ i. f (suc i)) (λ i. g (suc i)) (λ i l. h (suc i) (up l))) (h 0 (zlt n))
+
+pub pack-lt : (n : ℕ) (f : ℕ → ℕ) → AllBytes n f → pack n f < 256 ^ n
+unfolding pack
+pack-lt zero f h = omega arith
+pack-lt (suc n) f h =
+    subst (λ x. pack n (λ i. f (suc i)) * 256 + f 0 < x) (sym (pow-suc 256 n))
+    (digits-lt (pack-lt n (λ i. f (suc i)) (λ i l. h (suc i) (up l))) (h 0 (zlt n)))
+
+pub byte-pack : (n : ℕ) (f : ℕ → ℕ) → AllBytes n f → (i : ℕ) → i < n → byteOf (pack n f) i ≡ f i
+unfolding pack
+byte-pack zero f h i l = absurd (not-suc-le-zero l)
+byte-pack (suc n) f h zero l = byteOf-zero _ ∙ digits-mod (pack n (λ i. f (suc i))) (h 0 (zlt n))
+byte-pack (suc n) f h (suc i) l =
+    byteOf-suc _ i ∙ ap (λ x. byteOf x i) (digits-div (pack n (λ i. f (suc i))) (h 0 (zlt n)))
+    ∙ byte-pack n (λ i. f (suc i)) (λ i l. h (suc i) (up l)) i (le-of-suc-le-suc l)
+
+pub pack-byte : (n w : ℕ) → w < 256 ^ n → pack n (byteOf w) ≡ w
+unfolding pack
+pack-byte zero w h = omega arith
+pack-byte (suc n) w h =
+    ap₂ (λ (x y : ℕ). x * 256 + y)
+    (pack-ext n (λ i. byteOf w (suc i)) (byteOf (w / 256)) (λ i l. byteOf-suc w i)
+    ∙ pack-byte n (w / 256) (div-lt-iff-lt-mul (omega arith) .1 (subst (λ x. w < x) (pow-suc 256 n) h)))
+    (byteOf-zero w)
+    ∙ div-add-mod' w 256
+
+pub pack-xor : (n : ℕ) (f g : ℕ → ℕ) → AllBytes n f → AllBytes n g → pack n (λ i. xor (f i) (g i)) ≡ xor (pack n f) (pack n g)
+unfolding pack
+pack-xor zero f g hf hg = sym (X.self 0)
+pack-xor (suc n) f g hf hg =
+    ap (λ x. x * 256 + xor (f 0) (g 0)) (pack-xor n (λ i. f (suc i)) (λ i. g (suc i)) (λ i l. hf (suc i) (up l)) (λ i l. hg (suc i) (up l)))
+    ∙ sym (X.block 8 (pack n (λ i. f (suc i))) (pack n (λ i. g (suc i))) (f 0) (g 0) (hf 0 (zlt n)) (hg 0 (zlt n)))
+
+pub pack-zero : (n : ℕ) → pack n (λ i. 0) ≡ 0
+unfolding pack
+pack-zero zero = refl
+pack-zero (suc n) = ap (λ x. x * 256 + 0) (pack-zero n)
+
+pub xsum-bytes : (m : ℕ) (f : ℕ → ℕ) → ((j : ℕ) → j < m → f j < 256) → xsum m f < 256
+unfolding xsum
+xsum-bytes zero f h = omega arith
+xsum-bytes (suc m) f h = X.bound 8 _ _ (xsum-bytes m f (λ j l. h j (omega arith))) (h m (omega arith))
+
+-- a column of sums is the sum of the columns
+pub pack-xsum : (n m : ℕ) (f : ℕ → ℕ → ℕ) → ((k j : ℕ) → k < n → j < m → f k j < 256)
+    → pack n (λ k. xsum m (f k)) ≡ xsum m (λ j. pack n (λ k. f k j))
+unfolding xsum
+pack-xsum n zero f h = pack-zero n
+pack-xsum n (suc m) f h =
+    pack-xor n (λ k. xsum m (f k)) (λ k. f k m) (λ k l. xsum-bytes m (f k) (λ j lj. h k j l (omega arith))) (λ k l. h k m l (omega arith))
+    ∙ ap (λ x. xor x (pack n (λ k. f k m))) (pack-xsum n m f (λ k j lk lj. h k j lk (omega arith)))
+
+-- a row of a product is a byte
+pub product-lt : (v : List ℕ) (f : ℕ → ℕ) → ((k : ℕ) → k < 8 → f k < 256) → (i : ℕ) → product v f i < 256
+unfolding product
+product-lt v f h i = xsum-bytes 8 _ (λ j l. times-lt (coef v i j) (f j) (h j l))
+
+pub byte-xor : (a b i : ℕ) → byteOf (xor a b) i ≡ xor (byteOf a i) (byteOf b i)
+byte-xor a b zero = byteOf-zero (xor a b) ∙ X.low 8 a b ∙ sym (ap₂ xor (byteOf-zero a) (byteOf-zero b))
+byte-xor a b (suc i) =
+    byteOf-suc (xor a b) i ∙ ap (λ x. byteOf x i) (X.high 8 a b) ∙ byte-xor (a / 256) (b / 256) i ∙ sym (ap₂ xor (byteOf-suc a i) (byteOf-suc b i))

@@ -1,0 +1,3 @@
+-- The tables undo each other.
+pub mod Inverse
+pub mod Rows

@@ -1,0 +1,66 @@
+use mathlib.Core.Path.{_≡_, refl, _∙_}
+use lib.ListN.{getD, replicate}
+use Rattle.common.specs.Places.{tab}
+use Rattle.common.proofs.Places.{length-tab}
+use Rattle.substitutions.specs.Tables.{inv0, inv1, inv2, inv3}
+use Rattle.substitutions.proofs.Rows.{four, backward-row}
+use borrow.Author.Needs.{needs}
+use Rattle.substitutions.proofs.backward.Statement.{statement}
+use Rattle.substitutions.proofs.backward.Tie as tie
+use Rattle.substitutions.proofs.backward.Reads as reads
+use Rattle.substitutions.proofs.backward.Lts as lts
+use Rattle.substitutions.proofs.lay.Reads as lay-reads
+
+-- src/lib.rt:190:9
+slice-aggregate-lay : tie.Need-slice-aggregate-lay
+slice-aggregate-lay c = search needs
+
+-- src/lib.rt:190:5
+lay-requires : tie.Need-lay-requires
+lay-requires c κs = search needs
+
+-- src/lib.rt:191:9
+slice-aggregate-lay-2 : tie.Need-slice-aggregate-lay-2
+slice-aggregate-lay-2 c = search needs
+
+-- src/lib.rt:191:5
+lay-requires-2 : tie.Need-lay-requires-2
+lay-requires-2 c κs = search needs
+
+-- src/lib.rt:192:9
+slice-aggregate-lay-3 : tie.Need-slice-aggregate-lay-3
+slice-aggregate-lay-3 c = search needs
+
+-- src/lib.rt:192:5
+lay-requires-3 : tie.Need-lay-requires-3
+lay-requires-3 c κs = search needs
+
+-- src/lib.rt:193:9
+slice-aggregate-lay-4 : tie.Need-slice-aggregate-lay-4
+slice-aggregate-lay-4 c = search needs
+
+-- src/lib.rt:193:5
+lay-requires-4 : tie.Need-lay-requires-4
+lay-requires-4 c κs = search needs
+
+-- src/lib.rt:186:1
+returns : tie.Need-returns
+unfolding inv0 inv1 inv2 inv3
+returns c = four (tab 256 (λ k. getD inv0 k 0)) (tab 256 (λ k. getD inv1 k 0)) (tab 256 (λ k. getD inv2 k 0)) (tab 256 (λ k. getD inv3 k 0)) (replicate 1024 0) (c .before .before .before .before .before .before .before .before .before .before .lay .last .0) (c .before .before .before .before .before .before .before .lay2 .last .0) (c .before .before .before .before .lay3 .last .0) (c .before .lay4 .last .0)
+    (length-tab 256 _) (length-tab 256 _) (length-tab 256 _) (length-tab 256 _) refl (c .before .before .before .before .before .before .before .before .before .before .lay .kept .0) (c .before .before .before .before .before .before .before .lay2 .kept .0 ∙ c .before .before .before .before .before .before .before .before .before .before .lay .kept .0) (c .before .before .before .before .lay3 .kept .0 ∙ c .before .before .before .before .before .before .before .lay2 .kept .0 ∙ c .before .before .before .before .before .before .before .before .before .before .lay .kept .0) (c .before .lay4 .kept .0 ∙ c .before .before .before .before .lay3 .kept .0 ∙ c .before .before .before .before .before .before .before .lay2 .kept .0 ∙ c .before .before .before .before .before .before .before .before .before .before .lay .kept .0)
+    (c .before .before .before .before .before .before .before .before .before .before .lay .ensures) (c .before .before .before .before .before .before .before .lay2 .ensures) (c .before .before .before .before .lay3 .ensures) (c .before .lay4 .ensures)
+    ∙ backward-row
+
+pub backward-spec : {M : Type 1} → statement M
+backward-spec =
+    tie.close
+    (tie.spec
+    slice-aggregate-lay
+    lay-requires
+    slice-aggregate-lay-2
+    lay-requires-2
+    slice-aggregate-lay-3
+    lay-requires-3
+    slice-aggregate-lay-4
+    lay-requires-4
+    returns)

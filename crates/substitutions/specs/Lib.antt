@@ -1,0 +1,2 @@
+-- Annex А of document 003.
+pub mod Tables
