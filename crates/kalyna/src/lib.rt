@@ -1,0 +1,1 @@
+// Kalyna's block transformation and key schedule: definitions and their theorems. No code.

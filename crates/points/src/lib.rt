@@ -1,0 +1,1 @@
+// The worked examples of the papers as closed equations. No code.
