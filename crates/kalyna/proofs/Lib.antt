@@ -1,0 +1,3 @@
+-- Theorems of the definitions of section 6.
+pub mod Rows
+pub mod Undo
