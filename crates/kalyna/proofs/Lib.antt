@@ -1,3 +1,4 @@
 -- Theorems of the definitions of section 6.
 pub mod Rows
 pub mod Undo
+pub mod Bytes

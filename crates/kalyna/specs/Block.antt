@@ -1,6 +1,7 @@
 -- The block transformation and its inverse (document 003, 6.3.1 and 6.4.1), over c columns and t rounds. K v is round key v.
 use mathlib.Core.List.{List}
 use Prim.Native.Nat.{ℕ, zero, suc, _-_, _*_, _/_}
+use Rattle.kalyna.specs.State.{columnsOf, bytesOf}
 use Rattle.kalyna.specs.Round.{addKey, subKey, xorKey, ssm, unssm}
 
 -- 6.3.4: row i moves by floor (i x block bits / 512)
@@ -24,3 +25,10 @@ unrounds c K (suc n) s = unrounds c K n (unssm (moves c) c (xorKey c (K (suc n))
 -- 6.4.1
 unfoldable pub unseal : ℕ → ℕ → (ℕ → List ℕ) → List ℕ → List ℕ
 unseal c t K s = subKey c (K 0) (unrounds c K (t - 1) (unssm (moves c) c (subKey c (K t) s)))
+
+-- 6.2: on the bytes of a block
+unfoldable pub sealBytes : ℕ → ℕ → (ℕ → List ℕ) → List ℕ → List ℕ
+sealBytes c t K b = bytesOf c (seal c t K (columnsOf c b))
+
+unfoldable pub unsealBytes : ℕ → ℕ → (ℕ → List ℕ) → List ℕ → List ℕ
+unsealBytes c t K b = bytesOf c (unseal c t K (columnsOf c b))
