@@ -1,0 +1,2 @@
+-- Laws of columns in pieces, and of walks over blocks.
+pub mod Laws

@@ -1,0 +1,2 @@
+-- A cell as 16-bit pieces.
+pub mod Words
