@@ -1,0 +1,2 @@
+-- A column gathered from the table is the mixed column.
+pub mod Laws
