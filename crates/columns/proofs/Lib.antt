@@ -1,3 +1,2 @@
--- A column gathered from the table is the mixed column.
-pub mod Laws
-pub mod Laid
+-- Laws of the lookups.
+pub mod Lookup

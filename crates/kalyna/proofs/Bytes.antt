@@ -31,9 +31,10 @@ place n = omega arith
 pub bytesOf-bytes : (c : ℕ) (s : List ℕ) → Bytes (8 * c) (bytesOf c s)
 unfolding bytesOf
 bytesOf-bytes c s =
-    record
-      { long = length-tab (8 * c) _;
-        fits = λ n l. subst (λ x. x < 256) (sym (getD-tab (8 * c) (λ n. byteOf (getD s (n / 8) 0) (n % 8)) n l)) (byteOf-lt (getD s (n / 8) 0) (n % 8)) }
+    record {
+      long = length-tab (8 * c) _;
+      fits = λ n l. subst (λ x. x < 256) (sym (getD-tab (8 * c) (λ n. byteOf (getD s (n / 8) 0) (n % 8)) n l)) (byteOf-lt (getD s (n / 8) 0) (n % 8));
+    }
 
 pub columnsOf-state : (c : ℕ) (b : List ℕ) → ((n : ℕ) → n < 8 * c → getD b n 0 < 256) → State c (columnsOf c b)
 unfolding columnsOf
@@ -60,8 +61,8 @@ columns-bytes c s st =
     one : (j : ℕ) → j < c → pack 8 (λ i. getD (bytesOf c s) (8 * j + i) 0) ≡ getD s j 0
     one j hj =
         pack-ext 8 _ (byteOf (getD s j 0)) (λ i hi.
-          getD-tab (8 * c) (λ n. byteOf (getD s (n / 8) 0) (n % 8)) (8 * j + i) (omega arith)
-          ∙ ap₂ (λ (a b : ℕ). byteOf (getD s a 0) b) (quotient j i hi) (remainder j i hi))
+        getD-tab (8 * c) (λ n. byteOf (getD s (n / 8) 0) (n % 8)) (8 * j + i) (omega arith)
+        ∙ ap₂ (λ (a b : ℕ). byteOf (getD s a 0) b) (quotient j i hi) (remainder j i hi))
         ∙ pack-byte 8 (getD s j 0) (st .fits j hj)
 
 -- ---- round keys
@@ -70,8 +71,8 @@ pub odd-state : (c : ℕ) (k : List ℕ) → State c (oddKey c k)
 unfolding oddKey
 odd-state c k =
     columnsOf-state c _ (λ n hn.
-      subst (λ x. x < 256) (sym (getD-tab (8 * c) (λ n. getD (bytesOf c k) ((n + oddTurn c) % (8 * c)) 0) n hn))
-      (bytesOf-bytes c k .fits _ (mod-lt (n + oddTurn c) (omega arith))))
+    subst (λ x. x < 256) (sym (getD-tab (8 * c) (λ n. getD (bytesOf c k) ((n + oddTurn c) % (8 * c)) 0) n hn))
+    (bytesOf-bytes c k .fits _ (mod-lt (n + oddTurn c) (omega arith))))
 
 pick-state : (c : ℕ) (b : Bool) (x y : List ℕ) → State c x → State c y → State c (pick b x y)
 unfolding pick

@@ -58,13 +58,16 @@ around c d j h =
   where
     l : d % c < c
     l = mod-lt d (omega arith)
+
     add-zero′ : (x : ℕ) → x + 0 ≡ x
     add-zero′ x = omega arith
+
     gone : (d + (c - d % c)) % c ≡ 0
     gone = sym (mod-add-mod d c (c - d % c)) ∙ ap (λ x. x % c) e ∙ self c
       where
         e : d % c + (c - d % c) ≡ c
         e = omega (arith, l)
+
         self : (c : ℕ) → c % c ≡ 0
         self c = native.Mathlib.Nat.mod-self c
 
@@ -103,8 +106,8 @@ unfolding ssm mix shift substitute
 ssm-at δ c s j hj =
     getD-tab c _ j hj
     ∙ pack-ext 8 _ _ (λ k hk. product-ext forward _ _ (λ i hi.
-        row-at c (λ j i. byteOf (getD (substitute c s) (from c (δ i) j) 0) i) (place-rows (substitute c s) (λ i j. from c (δ i) j)) j i hj hi
-        ∙ row-at c (λ j i. sub i (byteOf (getD s j 0) i)) (sub-rows s) (from c (δ i) j) i (from-lt c (δ i) j (omega arith)) hi) k)
+    row-at c (λ j i. byteOf (getD (substitute c s) (from c (δ i) j) 0) i) (place-rows (substitute c s) (λ i j. from c (δ i) j)) j i hj hi
+    ∙ row-at c (λ j i. sub i (byteOf (getD s j 0) i)) (sub-rows s) (from c (δ i) j) i (from-lt c (δ i) j (omega arith)) hi) k)
 
 -- what opening does between two mixings back
 unfoldable pub back : (ℕ → ℕ) → ℕ → List ℕ → List ℕ
@@ -123,16 +126,16 @@ unfolding unmix
 unmix-back-at δ c s j hj =
     getD-tab c _ j hj
     ∙ pack-ext 8 _ _ (λ k hk. product-ext backward _ _ (λ i hi.
-        ap (λ x. byteOf x i) (back-at δ c s j hj)
-        ∙ byte-pack 8 (λ i. unsub i (byteOf (getD s (to c (δ i) j) 0) i)) (λ i l. unsub-lt i _ (byteOf-lt (getD s (to c (δ i) j) 0) i)) i hi) k)
+    ap (λ x. byteOf x i) (back-at δ c s j hj)
+    ∙ byte-pack 8 (λ i. unsub i (byteOf (getD s (to c (δ i) j) 0) i)) (λ i l. unsub-lt i _ (byteOf-lt (getD s (to c (δ i) j) 0) i)) i hi) k)
 
 -- the mixing back passes over a key
 pub unmix-xor : (c : ℕ) (k s : List ℕ) → unmix c (xorKey c k s) ≡ xorKey c (unmix c k) (unmix c s)
 unfolding unmix xorKey
 unmix-xor c k s =
     tab-ext c _ _ (λ j hj.
-      pack-ext 8 _ _ (λ i hi.
-        product-ext backward _ _ (λ n hn. ap (λ x. byteOf x n) (getD-tab c _ j hj) ∙ byte-xor (getD s j 0) (getD k j 0) n) i
-        ∙ product-xor backward (byteOf (getD s j 0)) (byteOf (getD k j 0)) i)
-      ∙ pack-xor 8 (product backward (byteOf (getD s j 0))) (product backward (byteOf (getD k j 0))) (λ i hi. mix-rows backward s j i hi) (λ i hi. mix-rows backward k j i hi)
-      ∙ sym (ap₂ xor (getD-tab c (λ j. pack 8 (product backward (byteOf (getD s j 0)))) j hj) (getD-tab c (λ j. pack 8 (product backward (byteOf (getD k j 0)))) j hj)))
+    pack-ext 8 _ _ (λ i hi.
+    product-ext backward _ _ (λ n hn. ap (λ x. byteOf x n) (getD-tab c _ j hj) ∙ byte-xor (getD s j 0) (getD k j 0) n) i
+    ∙ product-xor backward (byteOf (getD s j 0)) (byteOf (getD k j 0)) i)
+    ∙ pack-xor 8 (product backward (byteOf (getD s j 0))) (product backward (byteOf (getD k j 0))) (λ i hi. mix-rows backward s j i hi) (λ i hi. mix-rows backward k j i hi)
+    ∙ sym (ap₂ xor (getD-tab c (λ j. pack 8 (product backward (byteOf (getD s j 0)))) j hj) (getD-tab c (λ j. pack 8 (product backward (byteOf (getD k j 0)))) j hj)))

@@ -82,32 +82,32 @@ pub unshift-shift : (δ : ℕ → ℕ) (c : ℕ) (s : List ℕ) → State c s �
 unfolding unshift shift
 unshift-shift δ c s st =
     made-ext c _ (λ j. byteOf (getD s j 0))
-      (λ j i hj hi.
-        row-at c (λ j i. byteOf (getD s (from c (δ i) j) 0) i) (place-rows s (λ i j. from c (δ i) j)) (to c (δ i) j) i (to-lt c (δ i) j (omega arith)) hi
-        ∙ ap (λ n. byteOf (getD s n 0) i) (from-to c (δ i) j hj))
+    (λ j i hj hi.
+    row-at c (λ j i. byteOf (getD s (from c (δ i) j) 0) i) (place-rows s (λ i j. from c (δ i) j)) (to c (δ i) j) i (to-lt c (δ i) j (omega arith)) hi
+    ∙ ap (λ n. byteOf (getD s n 0) i) (from-to c (δ i) j hj))
     ∙ made-self c s st
 
 pub shift-unshift : (δ : ℕ → ℕ) (c : ℕ) (s : List ℕ) → State c s → shift δ c (unshift δ c s) ≡ s
 unfolding unshift shift
 shift-unshift δ c s st =
     made-ext c _ (λ j. byteOf (getD s j 0))
-      (λ j i hj hi.
-        row-at c (λ j i. byteOf (getD s (to c (δ i) j) 0) i) (place-rows s (λ i j. to c (δ i) j)) (from c (δ i) j) i (from-lt c (δ i) j (omega arith)) hi
-        ∙ ap (λ n. byteOf (getD s n 0) i) (to-from c (δ i) j hj))
+    (λ j i hj hi.
+    row-at c (λ j i. byteOf (getD s (to c (δ i) j) 0) i) (place-rows s (λ i j. to c (δ i) j)) (from c (δ i) j) i (from-lt c (δ i) j (omega arith)) hi
+    ∙ ap (λ n. byteOf (getD s n 0) i) (to-from c (δ i) j hj))
     ∙ made-self c s st
 
 pub unmix-mixed : (c : ℕ) (s : List ℕ) → State c s → unmix c (mix c s) ≡ s
 unfolding unmix mix
 unmix-mixed c s st =
     made-ext c _ (λ j. byteOf (getD s j 0))
-      (λ j i hj hi. product-ext backward _ _ (λ k hk. row-at c _ (mix-rows forward s) j k hj hk) i ∙ unmix-mix (byteOf (getD s j 0)) (λ k hk. byteOf-lt _ k) i hi)
+    (λ j i hj hi. product-ext backward _ _ (λ k hk. row-at c _ (mix-rows forward s) j k hj hk) i ∙ unmix-mix (byteOf (getD s j 0)) (λ k hk. byteOf-lt _ k) i hi)
     ∙ made-self c s st
 
 pub mix-unmixed : (c : ℕ) (s : List ℕ) → State c s → mix c (unmix c s) ≡ s
 unfolding unmix mix
 mix-unmixed c s st =
     made-ext c _ (λ j. byteOf (getD s j 0))
-      (λ j i hj hi. product-ext forward _ _ (λ k hk. row-at c _ (mix-rows backward s) j k hj hk) i ∙ mix-unmix (byteOf (getD s j 0)) (λ k hk. byteOf-lt _ k) i hi)
+    (λ j i hj hi. product-ext forward _ _ (λ k hk. row-at c _ (mix-rows backward s) j k hj hk) i ∙ mix-unmix (byteOf (getD s j 0)) (λ k hk. byteOf-lt _ k) i hi)
     ∙ made-self c s st
 
 pub unssm-ssm : (δ : ℕ → ℕ) (c : ℕ) (s : List ℕ) → State c s → unssm δ c (ssm δ c s) ≡ s
@@ -134,14 +134,14 @@ pub sub-add : (c : ℕ) (k s : List ℕ) → State c s → subKey c k (addKey c 
 unfolding subKey addKey
 sub-add c k s st =
     tab-ext c _ (λ j. getD s j 0)
-      (λ j h. ap (λ x. (x + 2 ^ 64 - getD k j 0 % 2 ^ 64) % 2 ^ 64) (getD-tab c _ j h) ∙ add-back (getD s j 0) (getD k j 0) (st .fits j h))
+    (λ j h. ap (λ x. (x + 2 ^ 64 - getD k j 0 % 2 ^ 64) % 2 ^ 64) (getD-tab c _ j h) ∙ add-back (getD s j 0) (getD k j 0) (st .fits j h))
     ∙ tab-self c s (st .long)
 
 pub add-sub : (c : ℕ) (k s : List ℕ) → State c s → addKey c k (subKey c k s) ≡ s
 unfolding subKey addKey
 add-sub c k s st =
     tab-ext c _ (λ j. getD s j 0)
-      (λ j h. ap (λ x. (x + getD k j 0) % 2 ^ 64) (getD-tab c _ j h) ∙ back-add (getD s j 0) (getD k j 0) (st .fits j h))
+    (λ j h. ap (λ x. (x + getD k j 0) % 2 ^ 64) (getD-tab c _ j h) ∙ back-add (getD s j 0) (getD k j 0) (st .fits j h))
     ∙ tab-self c s (st .long)
 
 pub xor-xor : (c : ℕ) (k s : List ℕ) → State c s → xorKey c k (xorKey c k s) ≡ s
@@ -187,7 +187,7 @@ unfolding unseal seal
 unseal-seal c t K s kt st =
     ap (λ x. subKey c (K 0) (unrounds c K (t - 1) (unssm (moves c) c x))) (sub-add c (K t) (ssm (moves c) c m) (ssm-state (moves c) c m))
     ∙ ap (λ x. subKey c (K 0) (unrounds c K (t - 1) x))
-        (unssm-ssm (moves c) c m (rounds-state c t K (addKey c (K 0) s) (t - 1) (omega arith) kt (add-state c (K 0) s)))
+    (unssm-ssm (moves c) c m (rounds-state c t K (addKey c (K 0) s) (t - 1) (omega arith) kt (add-state c (K 0) s)))
     ∙ ap (subKey c (K 0)) (unrounds-rounds c t K (addKey c (K 0) s) (t - 1) (omega arith) kt (add-state c (K 0) s))
     ∙ sub-add c (K 0) s st
   where

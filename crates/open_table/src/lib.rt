@@ -1,6 +1,6 @@
 // The table of opening, as bytes: a caller makes it once and lends it.
 ghost use mathlib.Core.Path.{_≡_};
-ghost use Rattle.columns.specs.Table.{openTable};
+ghost use Rattle.lookup.specs.Table.{openTable};
 
 const TABLE: [u8; 8192] = [
     0x9A,

@@ -1,6 +1,6 @@
 // The table of sealing, as bytes: a caller makes it once and lends it.
 ghost use mathlib.Core.Path.{_≡_};
-ghost use Rattle.columns.specs.Table.{sealTable};
+ghost use Rattle.lookup.specs.Table.{sealTable};
 
 const TABLE: [u8; 8192] = [
     0xA8,

@@ -56,6 +56,7 @@ module _ (l : List ℕ) (n a b c d : ℕ) where
     where
       away : (m : ℕ) → m < 4 → k ≡ n + m → ⊥
       away m q e = ⊎-elim (λ x. omega arith) (λ x. omega arith) h
+
       away-0 : k ≡ n → ⊥
       away-0 e = ⊎-elim (λ x. omega arith) (λ x. omega arith) h
 
@@ -79,10 +80,10 @@ module _ (l : List ℕ) (n a b c d : ℕ) where
 word-pieces : (w : ℕ) → w < 2 ^ 64 → ((w / 281474976710656 % 65536 * 65536 + w / 4294967296 % 65536) * 65536 + w / 65536 % 65536) * 65536 + w % 65536 ≡ w
 word-pieces w h =
     ap (λ x. x * 65536 + w % 65536)
-      (ap (λ x. x * 65536 + w / 65536 % 65536)
-        (ap (λ x. x * 65536 + w / 4294967296 % 65536) top ∙ ap (λ x. x * 65536 + w / 4294967296 % 65536) (sym (div-div-eq-div-mul w 4294967296 65536)) ∙ div-add-mod' (w / 4294967296) 65536
-        ∙ sym (div-div-eq-div-mul w 65536 65536))
-      ∙ div-add-mod' (w / 65536) 65536)
+    (ap (λ x. x * 65536 + w / 65536 % 65536)
+    (ap (λ x. x * 65536 + w / 4294967296 % 65536) top ∙ ap (λ x. x * 65536 + w / 4294967296 % 65536) (sym (div-div-eq-div-mul w 4294967296 65536)) ∙ div-add-mod' (w / 4294967296) 65536
+    ∙ sym (div-div-eq-div-mul w 65536 65536))
+    ∙ div-add-mod' (w / 65536) 65536)
     ∙ div-add-mod' w 65536
   where
     top : w / 281474976710656 % 65536 ≡ w / 281474976710656
@@ -93,8 +94,8 @@ pub word-same : (s : List ℕ) (j w : ℕ) → 4 * j + 4 ≤ length s → w < 2 
 unfolding wordAt putWord pieces
 word-same s j w h l =
     ap₂ (λ (x y : ℕ). x * 65536 + y)
-      (ap₂ (λ (x y : ℕ). x * 65536 + y) (ap₂ (λ (x y : ℕ). x * 65536 + y) (at-3 s (4 * j) _ _ _ _ h) (at-2 s (4 * j) _ _ _ _ h)) (at-1 s (4 * j) _ _ _ _ h))
-      (at-0 s (4 * j) _ _ _ _ h)
+    (ap₂ (λ (x y : ℕ). x * 65536 + y) (ap₂ (λ (x y : ℕ). x * 65536 + y) (at-3 s (4 * j) _ _ _ _ h) (at-2 s (4 * j) _ _ _ _ h)) (at-1 s (4 * j) _ _ _ _ h))
+    (at-0 s (4 * j) _ _ _ _ h)
     ∙ word-pieces w l
 
 -- another column
@@ -102,8 +103,8 @@ pub word-other : (s : List ℕ) (j k w : ℕ) → (k ≡ j → ⊥) → wordAt (
 unfolding wordAt putWord pieces
 word-other s j k w n =
     ap₂ (λ (x y : ℕ). x * 65536 + y)
-      (ap₂ (λ (x y : ℕ). x * 65536 + y) (ap₂ (λ (x y : ℕ). x * 65536 + y) (one 3 (omega arith)) (one 2 (omega arith))) (one 1 (omega arith)))
-      (at-none s (4 * j) _ _ _ _ (4 * k) (side 0 (omega arith) (4 * k) (omega arith)))
+    (ap₂ (λ (x y : ℕ). x * 65536 + y) (ap₂ (λ (x y : ℕ). x * 65536 + y) (one 3 (omega arith)) (one 2 (omega arith))) (one 1 (omega arith)))
+    (at-none s (4 * j) _ _ _ _ (4 * k) (side 0 (omega arith) (4 * k) (omega arith)))
   where
     side : (q : ℕ) → q < 4 → (x : ℕ) → x ≡ 4 * k + q → (x < 4 * j) ⊎ (4 * j + 4 ≤ x)
     side q lq x e = go (decLt k j)
@@ -111,6 +112,7 @@ word-other s j k w n =
         go : Dec (k < j) → (x < 4 * j) ⊎ (4 * j + 4 ≤ x)
         go (yes l) = _⊎_.inl (omega arith)
         go (no l) = _⊎_.inr (omega arith)
+
     one : (q : ℕ) → q < 4 → getD (sets s (4 * j) (pieces w)) (4 * k + q) 0 ≡ getD s (4 * k + q) 0
     one q lq = at-none s (4 * j) _ _ _ _ (4 * k + q) (side q lq (4 * k + q) refl)
 

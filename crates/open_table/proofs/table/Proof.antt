@@ -4,7 +4,7 @@ use Rattle.field.specs.Xor.{xor}
 use Rattle.field.specs.Field.{double}
 use Rattle.field.specs.Mixing.{coef}
 use Rattle.substitutions.specs.Tables.{inv0, inv1, inv2, inv3}
-use Rattle.columns.proofs.Laid.{doubles, weigh, products, row, laid, laid-open}
+use Rattle.lookup.proofs.Laid.{doubles, weigh, products, row, laid, laid-open}
 use Rattle.open_table.proofs.table.Statement.{statement}
 use Rattle.open_table.proofs.table.Tie as tie
 

@@ -4,7 +4,7 @@ use Rattle.field.specs.Xor.{xor}
 use Rattle.field.specs.Field.{double}
 use Rattle.field.specs.Mixing.{coef}
 use Rattle.substitutions.specs.Tables.{pi0, pi1, pi2, pi3}
-use Rattle.columns.proofs.Laid.{doubles, weigh, products, row, laid, laid-seal}
+use Rattle.lookup.proofs.Laid.{doubles, weigh, products, row, laid, laid-seal}
 use Rattle.seal_table.proofs.table.Statement.{statement}
 use Rattle.seal_table.proofs.table.Tie as tie
 

@@ -10,7 +10,7 @@ use Rattle.field.specs.Xor.{xor}
 use Rattle.field.specs.Field.{double, timesDigits, times}
 use Rattle.field.specs.Mixing.{coef, forward, backward}
 use Rattle.substitutions.specs.Tables.{pi0, pi1, pi2, pi3, inv0, inv1, inv2, inv3, tables, inverses, sub, unsub}
-use Rattle.columns.specs.Table.{tableOf, sealTable, openTable}
+use Rattle.lookup.specs.Table.{tableOf, sealTable, openTable}
 
 -- b, doubled 0 .. n - 1 times
 unfoldable pub doubles : ℕ → ℕ → List ℕ

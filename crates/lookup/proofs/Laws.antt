@@ -18,7 +18,7 @@ use Rattle.field.proofs.MixingLaws.{xsum-ext, xsum-lt}
 use Rattle.field.proofs.PackLaws.{AllBytes, pack-ext, pack-lt, pack-xsum, product-lt}
 use Rattle.substitutions.specs.Tables.{sub, unsub, tables, inverses}
 use Rattle.substitutions.proofs.Inverse.{sub-lt, unsub-lt}
-use Rattle.columns.specs.Table.{tableOf, sealTable, openTable, turned, entry, half, gather}
+use Rattle.lookup.specs.Table.{tableOf, sealTable, openTable, turned, entry, half, gather}
 
 -- ---- sums
 

@@ -1,0 +1,57 @@
+-- Lookups: bytes of a table as a number, and the rows of a column.
+use mathlib.Core.Path.{_≡_, refl, sym, ap, ap₂, _∙_}
+use mathlib.Core.List.{List, [], _∷_}
+use Prim.Native.Nat.{ℕ, zero, suc, _+_, _*_, _/_, _%_, _^_, _<_}
+use native.Mathlib.Nat.{zero-add, mod-lt, div-lt-iff-lt-mul}
+use native.Mathlib.Omega.{arith}
+use lib.ListN.{getD}
+use Rattle.field.specs.Xor.{xor}
+use Rattle.field.specs.Column.{pack}
+use Rattle.field.specs.Mixing.{xsum}
+use Rattle.field.proofs.XorLaws.{zero-l}
+use Rattle.field.proofs.PackLaws.{pack-ext}
+use Rattle.lookup.specs.Table.{turned, entry, half, gather}
+
+word-pack : (f : ℕ → ℕ) → (((((((f 7 * 256 + f 6) * 256 + f 5) * 256 + f 4) * 256 + f 3) * 256 + f 2) * 256 + f 1) * 256 + f 0) ≡ pack 8 f
+unfolding pack
+word-pack f = ap (λ x. (((((((x * 256 + f 6) * 256 + f 5) * 256 + f 4) * 256 + f 3) * 256 + f 2) * 256 + f 1) * 256 + f 0)) (sym (zero-add (f 7)))
+
+-- eight bytes, each under its own equation
+pub eight-bytes : (f : ℕ → ℕ) (w7 w6 w5 w4 w3 w2 w1 w0 : ℕ) → w7 ≡ f 7 → w6 ≡ f 6 → w5 ≡ f 5 → w4 ≡ f 4 → w3 ≡ f 3 → w2 ≡ f 2 → w1 ≡ f 1 → w0 ≡ f 0
+    → (((((((w7 * 256 + w6) * 256 + w5) * 256 + w4) * 256 + w3) * 256 + w2) * 256 + w1) * 256 + w0) ≡ pack 8 f
+eight-bytes f w7 w6 w5 w4 w3 w2 w1 w0 e7 e6 e5 e4 e3 e2 e1 e0 = cc (word-pack f)
+
+-- four rows
+pub four-rows : (t : List ℕ) (b : ℕ → ℕ) (r y x e0 e1 e2 e3 : ℕ) → e0 ≡ entry t 0 (b 0) → e1 ≡ entry t 1 (b 1) → e2 ≡ entry t 2 (b 2) → e3 ≡ entry t 3 (b 3)
+    → x ≡ xor e0 e1 → y ≡ xor x e2 → r ≡ xor y e3 → r ≡ half t b
+unfolding half xsum
+four-rows t b r y x e0 e1 e2 e3 h0 h1 h2 h3 hx hy hr =
+    hr ∙ ap₂ xor (hy ∙ ap₂ xor (hx ∙ ap₂ xor (h0 ∙ sym (zero-l (entry t 0 (b 0)))) h1) h2) h3
+
+pub turn-fits : (x : ℕ) → x < 2 ^ 64 → turned x < 2 ^ 64
+unfolding turned
+turn-fits x l =
+    sums (x % 4294967296) (x / 4294967296) (mod-lt x (omega arith)) (div-lt-iff-lt-mul {k = 4294967296} {x = x} {y = 4294967296} (omega arith) .1 l)
+  where
+    sums : (p q : ℕ) → p < 4294967296 → q < 4294967296 → p * 4294967296 + q < 2 ^ 64
+    sums p q lp lq = omega arith
+
+-- what holds of rows 0 to 3, one by one
+pub four : (P : ℕ → Type 0) → P 0 → P 1 → P 2 → P 3 → (i : ℕ) → i < 4 → P i
+four P a b c d zero l = a
+four P a b c d (suc zero) l = b
+four P a b c d (suc (suc zero)) l = c
+four P a b c d (suc (suc (suc zero))) l = d
+four P a b c d (suc (suc (suc (suc i)))) l = let z : ⊥ = omega arith in absurd z
+
+-- and of rows 0 to 7
+pub eight : (P : ℕ → Type 0) → P 0 → P 1 → P 2 → P 3 → P 4 → P 5 → P 6 → P 7 → (i : ℕ) → i < 8 → P i
+eight P a b c d e f g h zero l = a
+eight P a b c d e f g h (suc zero) l = b
+eight P a b c d e f g h (suc (suc zero)) l = c
+eight P a b c d e f g h (suc (suc (suc zero))) l = d
+eight P a b c d e f g h (suc (suc (suc (suc zero)))) l = e
+eight P a b c d e f g h (suc (suc (suc (suc (suc zero))))) l = f
+eight P a b c d e f g h (suc (suc (suc (suc (suc (suc zero)))))) l = g
+eight P a b c d e f g h (suc (suc (suc (suc (suc (suc (suc zero))))))) l = h
+eight P a b c d e f g h (suc (suc (suc (suc (suc (suc (suc (suc i)))))))) l = let z : ⊥ = omega arith in absurd z

@@ -1,0 +1,3 @@
+-- A column gathered from the table is the mixed column.
+pub mod Laws
+pub mod Laid

@@ -1,0 +1,1 @@
+// The rule of the lookup tables, and its laws. No code.
