@@ -1,0 +1,2 @@
+-- Rounds over the blocks of a cell.
+pub mod Rounds
