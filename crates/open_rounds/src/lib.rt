@@ -1,14 +1,13 @@
 // A round of opening over all blocks of a cell, straight for each width.
-ghost use mathlib.Core.Path.{_≡_};
 ghost use Prim.Native.Nat.{_+_, _*_, _≤_};
 ghost use lib.ListN.{length};
 ghost use Rattle.words.specs.Words.{blockAt, Walked};
-ghost use Rattle.rounds.specs.Rounds.{looked, openPlaces, keyAt, roundOf};
+ghost use Rattle.rounds.specs.Rounds.{Looked, openPlaces, keyAt, roundOf};
 
 // Block b opened by lookups: column j, row by row, from the pieces that hold it.
 fn unmix4(t: &[u8; 8192], s: &[u16], b: usize) -> [u64; 4]
     requires { ⌜ 4 * (4 * b + 4) ≤ length (now s) ⌝ }
-    ensures { λ r. ⌜ r ≡ looked (now (t .entry)) 4 (openPlaces 4) (blockAt 4 (now (s .entry)) b) ⌝ }
+    ensures { λ r. ⌜ Looked (now (t .entry)) 4 (openPlaces 4) (blockAt 4 (now (s .entry)) b) r ⌝ }
 {
     let at = 16 * b;
     let p0 = s[at];
@@ -38,7 +37,7 @@ fn unmix4(t: &[u8; 8192], s: &[u16], b: usize) -> [u64; 4]
 // Block b opened by lookups: column j, row by row, from the pieces that hold it.
 fn unmix8(t: &[u8; 8192], s: &[u16], b: usize) -> [u64; 8]
     requires { ⌜ 4 * (8 * b + 8) ≤ length (now s) ⌝ }
-    ensures { λ r. ⌜ r ≡ looked (now (t .entry)) 8 (openPlaces 8) (blockAt 8 (now (s .entry)) b) ⌝ }
+    ensures { λ r. ⌜ Looked (now (t .entry)) 8 (openPlaces 8) (blockAt 8 (now (s .entry)) b) r ⌝ }
 {
     let at = 32 * b;
     let p0 = s[at];

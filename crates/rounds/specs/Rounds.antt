@@ -1,6 +1,7 @@
 -- What one walk over the blocks of a cell makes of each block.
 use mathlib.Core.List.{List}
-use Prim.Native.Nat.{ℕ, _+_}
+use mathlib.Core.Path.{_≡_}
+use Prim.Native.Nat.{ℕ, _+_, _^_, _<_}
 use lib.ListN.{getD}
 use Rattle.common.specs.Places.{tab}
 use Rattle.field.specs.Column.{byteOf}
@@ -26,3 +27,8 @@ keyAt c ks at = tab c (λ j. getD ks (at + j) 0)
 -- a round: looked up, and the key added modulo 2
 unfoldable pub roundOf : List ℕ → ℕ → (ℕ → ℕ → ℕ) → List ℕ → List ℕ → List ℕ
 roundOf t c at k x = xorKey c k (looked t c at x)
+
+-- the columns r are a block looked up, each of 64 bits
+pub record Looked (t : List ℕ) (c : ℕ) (at : ℕ → ℕ → ℕ) (x r : List ℕ) : Type 0 where
+  pub says : r ≡ looked t c at x
+  pub fits : (k : ℕ) → k < c → getD r k 0 < 2 ^ 64

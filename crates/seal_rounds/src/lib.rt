@@ -1,14 +1,13 @@
 // A round of sealing over all blocks of a cell, straight for each width.
-ghost use mathlib.Core.Path.{_≡_};
 ghost use Prim.Native.Nat.{_+_, _*_, _≤_};
 ghost use lib.ListN.{length};
 ghost use Rattle.words.specs.Words.{blockAt, Walked};
-ghost use Rattle.rounds.specs.Rounds.{looked, sealPlaces, keyAt, roundOf};
+ghost use Rattle.rounds.specs.Rounds.{Looked, sealPlaces, keyAt, roundOf};
 
 // Block b sealed by lookups: column j, row by row, from the pieces that hold it.
 fn mix2(t: &[u8; 8192], s: &[u16], b: usize) -> [u64; 2]
     requires { ⌜ 4 * (2 * b + 2) ≤ length (now s) ⌝ }
-    ensures { λ r. ⌜ r ≡ looked (now (t .entry)) 2 (sealPlaces 2) (blockAt 2 (now (s .entry)) b) ⌝ }
+    ensures { λ r. ⌜ Looked (now (t .entry)) 2 (sealPlaces 2) (blockAt 2 (now (s .entry)) b) r ⌝ }
 {
     let at = 8 * b;
     let p0 = s[at];
@@ -28,7 +27,7 @@ fn mix2(t: &[u8; 8192], s: &[u16], b: usize) -> [u64; 2]
 // Block b sealed by lookups: column j, row by row, from the pieces that hold it.
 fn mix4(t: &[u8; 8192], s: &[u16], b: usize) -> [u64; 4]
     requires { ⌜ 4 * (4 * b + 4) ≤ length (now s) ⌝ }
-    ensures { λ r. ⌜ r ≡ looked (now (t .entry)) 4 (sealPlaces 4) (blockAt 4 (now (s .entry)) b) ⌝ }
+    ensures { λ r. ⌜ Looked (now (t .entry)) 4 (sealPlaces 4) (blockAt 4 (now (s .entry)) b) r ⌝ }
 {
     let at = 16 * b;
     let p0 = s[at];
@@ -58,7 +57,7 @@ fn mix4(t: &[u8; 8192], s: &[u16], b: usize) -> [u64; 4]
 // Block b sealed by lookups: column j, row by row, from the pieces that hold it.
 fn mix8(t: &[u8; 8192], s: &[u16], b: usize) -> [u64; 8]
     requires { ⌜ 4 * (8 * b + 8) ≤ length (now s) ⌝ }
-    ensures { λ r. ⌜ r ≡ looked (now (t .entry)) 8 (sealPlaces 8) (blockAt 8 (now (s .entry)) b) ⌝ }
+    ensures { λ r. ⌜ Looked (now (t .entry)) 8 (sealPlaces 8) (blockAt 8 (now (s .entry)) b) r ⌝ }
 {
     let at = 32 * b;
     let p0 = s[at];
