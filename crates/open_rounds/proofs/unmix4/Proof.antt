@@ -1,3 +1,12 @@
+use mathlib.Core.List.{[], _∷_}
+use Prim.Native.Nat.{_^_, _<_}
+use native.Mathlib.Omega.{arith}
+use lib.ListN.{getD}
+use denote.Ref.{now}
+use Rattle.field.proofs.XorLaws.{lt-two}
+use Rattle.columns.proofs.Lookup.{four, eight}
+use Rattle.words.proofs.Laws.{Pieces}
+use Rattle.open_rounds.proofs.Blocks.{block-4}
 use borrow.Author.Needs.{needs}
 use Rattle.open_rounds.proofs.unmix4.Statement.{statement}
 use Rattle.open_rounds.proofs.unmix4.Tie as tie
@@ -231,7 +240,12 @@ array-write-o-4 c = search needs
 
 -- src/lib.rt:9:1
 returns : tie.Need-returns
-returns c = ?
+returns c = let s = now (c .before .before .before .before .before .before .before .before .before .before .before .before .before .before .before .before .before .before .before .before .before .args .s) in
+    let h : Pieces s = λ i. omega (arith, c .before .before .before .before .before .before .before .before .before .before .before .before .before .before .before .before .before .before .before .before .shared-slice-known .given i) in
+    record {
+      says = block-4 (now (c .before .before .before .before .before .before .before .before .before .before .before .before .before .before .before .before .before .before .before .before .before .args .t)) s (c .before .before .before .before .before .before .before .before .before .before .before .before .before .before .before .before .before .before .before .before .before .args .b) h _ _ _ _ (c .before .before .before .column .ensures) (c .before .before .column2 .ensures) (c .before .column3 .ensures) (c .column4 .ensures);
+      fits = four (λ k. getD (c .before .before .before .column .result ∷ c .before .before .column2 .result ∷ c .before .column3 .result ∷ c .column4 .result ∷ []) k 0 < 2 ^ 64) (omega (arith, c .before .before .before .column .ok)) (omega (arith, c .before .before .column2 .ok)) (omega (arith, c .before .column3 .ok)) (omega (arith, c .column4 .ok));
+    }
 
 pub unmix4-spec : {M : Type 1} → statement M
 unmix4-spec =

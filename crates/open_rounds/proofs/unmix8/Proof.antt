@@ -1,3 +1,12 @@
+use mathlib.Core.List.{[], _∷_}
+use Prim.Native.Nat.{_^_, _<_}
+use native.Mathlib.Omega.{arith}
+use lib.ListN.{getD}
+use denote.Ref.{now}
+use Rattle.field.proofs.XorLaws.{lt-two}
+use Rattle.columns.proofs.Lookup.{four, eight}
+use Rattle.words.proofs.Laws.{Pieces}
+use Rattle.open_rounds.proofs.Blocks.{block-8}
 use borrow.Author.Needs.{needs}
 use Rattle.open_rounds.proofs.unmix8.Statement.{statement}
 use Rattle.open_rounds.proofs.unmix8.Tie as tie
@@ -455,7 +464,12 @@ array-write-o-8 c = search needs
 
 -- src/lib.rt:39:1
 returns : tie.Need-returns
-returns c = ?
+returns c = let s = now (c .before .before .before .before .before .before .before .before .before .before .before .before .before .before .before .before .before .before .before .before .before .before .before .before .before .before .before .before .before .before .before .before .before .before .before .before .before .before .before .before .before .args .s) in
+    let h : Pieces s = λ i. omega (arith, c .before .before .before .before .before .before .before .before .before .before .before .before .before .before .before .before .before .before .before .before .before .before .before .before .before .before .before .before .before .before .before .before .before .before .before .before .before .before .before .before .shared-slice-known .given i) in
+    record {
+      says = block-8 (now (c .before .before .before .before .before .before .before .before .before .before .before .before .before .before .before .before .before .before .before .before .before .before .before .before .before .before .before .before .before .before .before .before .before .before .before .before .before .before .before .before .before .args .t)) s (c .before .before .before .before .before .before .before .before .before .before .before .before .before .before .before .before .before .before .before .before .before .before .before .before .before .before .before .before .before .before .before .before .before .before .before .before .before .before .before .before .before .args .b) h _ _ _ _ _ _ _ _ (c .before .before .before .before .before .before .before .column .ensures) (c .before .before .before .before .before .before .column2 .ensures) (c .before .before .before .before .before .column3 .ensures) (c .before .before .before .before .column4 .ensures) (c .before .before .before .column5 .ensures) (c .before .before .column6 .ensures) (c .before .column7 .ensures) (c .column8 .ensures);
+      fits = eight (λ k. getD (c .before .before .before .before .before .before .before .column .result ∷ c .before .before .before .before .before .before .column2 .result ∷ c .before .before .before .before .before .column3 .result ∷ c .before .before .before .before .column4 .result ∷ c .before .before .before .column5 .result ∷ c .before .before .column6 .result ∷ c .before .column7 .result ∷ c .column8 .result ∷ []) k 0 < 2 ^ 64) (omega (arith, c .before .before .before .before .before .before .before .column .ok)) (omega (arith, c .before .before .before .before .before .before .column2 .ok)) (omega (arith, c .before .before .before .before .before .column3 .ok)) (omega (arith, c .before .before .before .before .column4 .ok)) (omega (arith, c .before .before .before .column5 .ok)) (omega (arith, c .before .before .column6 .ok)) (omega (arith, c .before .column7 .ok)) (omega (arith, c .column8 .ok));
+    }
 
 pub unmix8-spec : {M : Type 1} → statement M
 unmix8-spec =

@@ -1,3 +1,15 @@
+use borrow.Author.Needs.{needs}
+use mathlib.Core.Path.{_≡_, refl, sym, subst, _∙_}
+use Prim.Native.Nat.{ℕ, _+_, _-_, _*_, _^_, _≤_, _<_}
+use native.Mathlib.Omega.{arith}
+use lib.ListN.{getD}
+use denote.Ref.{now}
+use Rattle.field.specs.Xor.{xor}
+use Rattle.field.proofs.XorLaws.{bound}
+use Rattle.words.specs.Words.{blockAt, Walked}
+use Rattle.words.proofs.Walks.{walk-none, walk-more}
+use Rattle.rounds.specs.Rounds.{openPlaces, keyAt, roundOf}
+use Rattle.rounds.proofs.Laws.{round-cols}
 use Rattle.open_rounds.proofs.walk8.Statement.{statement}
 use Rattle.open_rounds.proofs.walk8.Tie as tie
 use Rattle.open_rounds.proofs.walk8.Reads as reads
@@ -6,42 +18,46 @@ use Rattle.open_rounds.proofs.unmix8.Reads as unmix8-reads
 use Rattle.rounds.proofs.keyed8.Reads as keyed8-reads
 
 abbrev Inv-loop : tie.InvT-loop
-Inv-loop t s₀ n ks at i₀ s i = ?
+Inv-loop t s₀ n ks at i₀ s i = (i ≤ n) × Walked 8 i (roundOf t 8 (openPlaces 8) (keyAt 8 ks at)) s₀ s
 
 abbrev μ-loop : tie.MeasureT-loop
-μ-loop t s₀ n ks at i₀ s i = ?
+μ-loop t s₀ n ks at i₀ s i = n - i
 
 -- src/lib.rt:107:5
 loop-holds : tie.Need-loop-holds Inv-loop μ-loop
-loop-holds c = ?
+loop-holds c = (omega arith, walk-none 8 (roundOf (now (c .before .before .args .t)) 8 (openPlaces 8) (keyAt 8 (now (c .before .before .args .ks)) (c .before .before .args .at))) (now (c .before .before .args .s)))
 
 -- src/lib.rt:108:13
 unmix8-requires : tie.Need-unmix8-requires Inv-loop μ-loop
-unmix8-requires c κs = ?
+unmix8-requires c κs = omega (arith, c .before .before .loop .inv .1 .long)
 
 -- src/lib.rt:109:9
 keyed8-requires : tie.Need-keyed8-requires Inv-loop μ-loop
-keyed8-requires c κs = ?
+keyed8-requires c κs = omega (arith, c .before .before .before .before .loop .inv .1 .long)
 
 -- src/lib.rt:110:9
 add-i : tie.Need-add-i Inv-loop μ-loop
-add-i c = ?
+add-i c = search needs
 
 -- src/lib.rt:107:5
 loop-less : tie.Need-loop-less Inv-loop μ-loop
-loop-less c = ?
+loop-less c = search needs
 
 -- src/lib.rt:107:5
 loop-again : tie.Need-loop-again Inv-loop μ-loop
-loop-again c = ?
+loop-again c = (
+  omega arith,
+  walk-more 8 (c .before .before .before .before .before .before .before .loop .i) (roundOf (now (c .before .before .before .before .before .before .before .before .before .before .args .t)) 8 (openPlaces 8) (keyAt 8 (now (c .before .before .before .before .before .before .before .before .before .before .args .ks)) (c .before .before .before .before .before .before .before .before .before .before .args .at))) (now (c .before .before .before .before .before .before .before .before .before .before .args .s)) (c .before .before .before .before .before .before .before .loop .s) (c .before .before .keyed8 .last .0) (λ j. xor (getD (c .before .before .before .before .unmix8 .result) j 0) (getD (now (c .before .before .before .before .before .before .before .before .before .before .args .ks)) (c .before .before .before .before .before .before .before .before .before .before .args .at + j) 0))
+      (c .before .before .before .before .before .before .before .loop .inv .1) (omega arith) (c .before .before .keyed8 .ensures) (λ k h. bound 64 _ _ (c .before .before .before .before .unmix8 .ensures .fits k h) (omega (arith, c .before .before .before .before .before .before .before .before .shared-slice-known .given (c .before .before .before .before .before .before .before .before .before .before .args .at + k)))) (round-cols (now (c .before .before .before .before .before .before .before .before .before .before .args .t)) 8 (openPlaces 8) (now (c .before .before .before .before .before .before .before .before .before .before .args .ks)) (c .before .before .before .before .unmix8 .result) (blockAt 8 (c .before .before .before .before .before .before .before .loop .s) (c .before .before .before .before .before .before .before .loop .i)) (c .before .before .before .before .before .before .before .before .before .before .args .at) (c .before .before .before .before .unmix8 .ensures .says)),
+)
 
 -- src/lib.rt:102:1
 same-length : tie.Need-same-length Inv-loop μ-loop
-same-length c = ?
+same-length c = c .before .loop .inv .1 .long
 
 -- src/lib.rt:102:1
 returns : tie.Need-returns Inv-loop μ-loop
-returns c = ?
+returns c = subst (λ m. Walked 8 m (roundOf (now (c .before .before .before .before .args .t)) 8 (openPlaces 8) (keyAt 8 (now (c .before .before .before .before .args .ks)) (c .before .before .before .before .args .at))) (now (c .before .before .before .before .args .s)) (c .before .loop .s)) (omega arith) (c .before .loop .inv .1)
 
 pub walk8-spec : {M : Type 1} → statement M
 walk8-spec =

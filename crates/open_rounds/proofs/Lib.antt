@@ -1,0 +1,2 @@
+-- The pieces of a block, and its rows.
+pub mod Blocks
