@@ -1,0 +1,2 @@
+-- Laws of keys of all blocks.
+pub mod Laws

@@ -1,0 +1,2 @@
+-- Keys of all blocks of a cell.
+pub mod Blocks
