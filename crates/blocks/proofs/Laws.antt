@@ -14,16 +14,6 @@ use Rattle.words.proofs.Walks.{puts-other, walk-more}
 use Rattle.kalyna.specs.Round.{addKey, subKey}
 use Rattle.rounds.specs.Rounds.{keyAt}
 
--- one more column
-pub puts-more : (s₀ s s′ : List ℕ) (w j : ℕ) (f : ℕ → ℕ) (v : ℕ) → s ≡ putWords s₀ w j f → s′ ≡ putWord s (w + j) v → v ≡ f j → s′ ≡ putWords s₀ w (j + 1) f
-unfolding putWords
-puts-more s₀ s s′ w j f v e r q =
-    r ∙ ap₂ (λ (l : List ℕ) (x : ℕ). putWord l (w + j) x) e q ∙ ap (λ n. putWords s₀ w n f) (sym (add-one j))
-
--- the column that is next stands as it did
-pub puts-next : (s₀ s : List ℕ) (w j : ℕ) (f : ℕ → ℕ) → s ≡ putWords s₀ w j f → wordAt s (w + j) ≡ wordAt s₀ (w + j)
-puts-next s₀ s w j f e = ap (λ l. wordAt l (w + j)) e ∙ puts-other s₀ w j f (w + j) (_⊎_.inr (omega arith))
-
 -- room for block i of n
 pub room : (c i n l : ℕ) → i < n → 4 * (c * n) ≤ l → 4 * (c * i + c) ≤ l
 room c i n l h r = omega (arith, mul-le-mul-left c h, mul-suc c i)

@@ -45,6 +45,15 @@ puts-at s at (suc n) f h r k l = go (decLt k n) (puts-at s at n f (λ i li. h i 
             ∙ word-same (putWords s at n f) (at + n) (f n) (subst (λ x. 4 * (at + n) + 4 ≤ x) (sym (length-puts s at n f)) (omega arith)) (h n (omega arith))
             ∙ ap f (sym e)
 
+-- one more column
+pub puts-more : (s₀ s s′ : List ℕ) (w j : ℕ) (f : ℕ → ℕ) (v : ℕ) → s ≡ putWords s₀ w j f → s′ ≡ putWord s (w + j) v → v ≡ f j → s′ ≡ putWords s₀ w (j + 1) f
+unfolding putWords
+puts-more s₀ s s′ w j f v e r q = r ∙ ap₂ (λ (l : List ℕ) (x : ℕ). putWord l (w + j) x) e q ∙ ap (λ n. putWords s₀ w n f) (sym (add-one j))
+
+-- the column that is next stands as it did
+pub puts-next : (s₀ s : List ℕ) (w j : ℕ) (f : ℕ → ℕ) → s ≡ putWords s₀ w j f → wordAt s (w + j) ≡ wordAt s₀ (w + j)
+puts-next s₀ s w j f e = ap (λ l. wordAt l (w + j)) e ∙ puts-other s₀ w j f (w + j) (_⊎_.inr (omega arith))
+
 -- ---- walks
 
 pub block-ext : (c : ℕ) (s s′ : List ℕ) (i : ℕ) → ((j : ℕ) → j < c → wordAt s (c * i + j) ≡ wordAt s′ (c * i + j)) → blockAt c s i ≡ blockAt c s′ i

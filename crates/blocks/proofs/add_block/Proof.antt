@@ -6,10 +6,10 @@ use native.Mathlib.Nat.{mul-zero}
 use lib.ListN.{getD, length}
 use denote.Ref.{now}
 use Rattle.words.specs.Words.{wordAt, putWords, Walked}
-use Rattle.words.proofs.Walks.{length-puts, walk-none}
+use Rattle.words.proofs.Walks.{length-puts, puts-more, puts-next, walk-none}
 use Rattle.kalyna.specs.Round.{addKey, subKey}
 use Rattle.rounds.specs.Rounds.{keyAt}
-use Rattle.blocks.proofs.Laws.{puts-more, puts-next, room, next-block, block-more, added, subtracted, below, sub-is}
+use Rattle.blocks.proofs.Laws.{room, next-block, block-more, added, subtracted, below, sub-is}
 use Rattle.blocks.proofs.add_block.Statement.{statement}
 use Rattle.blocks.proofs.add_block.Tie as tie
 use Rattle.blocks.proofs.add_block.Reads as reads

@@ -9,7 +9,7 @@ use Rattle.words.specs.Words.{wordAt, putWords, Walked}
 use Rattle.words.proofs.Walks.{length-puts, walk-none}
 use Rattle.kalyna.specs.Round.{addKey, subKey}
 use Rattle.rounds.specs.Rounds.{keyAt}
-use Rattle.blocks.proofs.Laws.{puts-more, puts-next, room, next-block, block-more, added, subtracted, below}
+use Rattle.blocks.proofs.Laws.{room, next-block, block-more, added, subtracted, below}
 use Rattle.blocks.proofs.add_keys.Statement.{statement}
 use Rattle.blocks.proofs.add_keys.Tie as tie
 use Rattle.blocks.proofs.add_keys.Reads as reads

@@ -1,0 +1,2 @@
+-- Laws of bytes and columns.
+pub mod Laws
