@@ -3,3 +3,4 @@ pub mod Tree
 pub mod Calls
 pub mod Bounds
 pub mod Reading
+pub mod Names

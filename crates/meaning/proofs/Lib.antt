@@ -1,0 +1,5 @@
+-- Folding changes no meaning, and folds all that it may.
+pub mod Binds
+pub mod Meaning
+pub mod Constants
+pub mod Left
