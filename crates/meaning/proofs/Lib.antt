@@ -3,3 +3,5 @@ pub mod Binds
 pub mod Meaning
 pub mod Constants
 pub mod Left
+pub mod Plain
+pub mod Within

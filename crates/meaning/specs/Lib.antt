@@ -3,3 +3,4 @@ pub mod Mean
 pub mod Real
 pub mod Fold
 pub mod Folded
+pub mod Values
