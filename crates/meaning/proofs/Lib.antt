@@ -5,3 +5,4 @@ pub mod Constants
 pub mod Left
 pub mod Plain
 pub mod Within
+pub mod Examples

@@ -105,12 +105,12 @@ module _ (cipher : Cipher) (h : CipherValued cipher) where
       record {
         oneValued = λ k x hx. ciphered-valued k (x ∷ []) (hx, tt);
         twoValued =
-          λ k x y hx hy.
+            λ k x y hx hy.
             pick-valued _ _ _ (cat-valued x y hx hy)
             (pick-valued _ _ _ (xor-valued x y hx hy)
             (pick-valued _ _ _ (eq-valued x y hx hy) (pick-valued _ _ _ (head-valued x y hx hy) (ciphered-valued k (x ∷ y ∷ []) (hx, (hy, tt))))));
         threeValued = λ k x y z hx hy hz. ciphered-valued k (x ∷ y ∷ z ∷ []) (hx, (hy, (hz, tt)));
-        fourValued = λ k x y z w hx hy hz hw. ciphered-valued k (x ∷ y ∷ z ∷ w ∷ []) (hx, (hy, (hz, (hw, tt))))
+        fourValued = λ k x y z w hx hy hz hw. ciphered-valued k (x ∷ y ∷ z ∷ w ∷ []) (hx, (hy, (hz, (hw, tt))));
       }
 
 false-true : false ≡ true → ⊥

@@ -205,5 +205,5 @@ module _ (C : Calls) (K : Binding) (hC : CallsValued C) (hK : BindingValued K) w
         proper = f .proper;
         small = f .small;
         shallow = le-trans (fold-depth C K t) (h .shallow);
-        few = le-trans (fold-nodes C K t) (h .few)
+        few = le-trans (fold-nodes C K t) (h .few);
       }

@@ -64,5 +64,5 @@ real cipher =
       ofOne = λ k a. ciphered cipher k (a ∷ []);
       ofTwo = λ k a b. realTwo cipher k a b;
       ofThree = λ k a b c. ciphered cipher k (a ∷ b ∷ c ∷ []);
-      ofFour = λ k a b c d. ciphered cipher k (a ∷ b ∷ c ∷ d ∷ [])
+      ofFour = λ k a b c d. ciphered cipher k (a ∷ b ∷ c ∷ d ∷ []);
     }
