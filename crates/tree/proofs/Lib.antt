@@ -1,0 +1,3 @@
+-- Laws of trees, and the table of calls at each kind.
+pub mod Table
+pub mod Examples
