@@ -15,6 +15,7 @@ use Rattle.common.proofs.Places.{getD-tab, length-tab}
 use Rattle.common.specs.Answer.{Value, Answer}
 use Rattle.common.specs.Answer.Answer.{value, refused}
 use Rattle.tree.specs.Bounds.{Bytes}
+use Rattle.tree.proofs.Bytes.{bytes-append, bytes-take, bytes-tab}
 use Rattle.meaning.specs.Mean.{Calls}
 use Rattle.meaning.specs.Real.{cat, xorByte, xorBytes, xor, same, eq, head, Cipher, ciphered, realTwo, real}
 use Rattle.meaning.specs.Values.{IsValue, Valued, CallsValued, AllValues, CipherValued}
@@ -25,28 +26,6 @@ pub pick-value : (b : Bool) (v : Value) (n : ℕ) {w : Value} → pick b (value 
 unfolding pick
 pick-value true v n e = (refl, same-value e)
 pick-value false v n e = absurd (no-value e)
-
-pub bytes-append : (a b : Value) → Bytes a → Bytes b → Bytes (a ++ b)
-bytes-append [] b ha hb i = hb i
-bytes-append (x ∷ a) b ha hb zero = ha 0
-bytes-append (x ∷ a) b ha hb (suc i) = bytes-append a b (λ j. ha (suc j)) hb i
-
-pub bytes-take : (n : ℕ) (a : Value) → Bytes a → Bytes (take n a)
-bytes-take zero a h i = omega arith
-bytes-take (suc n) [] h i = h i
-bytes-take (suc n) (x ∷ a) h zero = h 0
-bytes-take (suc n) (x ∷ a) h (suc i) = bytes-take n a (λ j. h (suc j)) i
-
-pub bytes-drop : (n : ℕ) (a : Value) → Bytes a → Bytes (drop n a)
-bytes-drop zero a h = h
-bytes-drop (suc n) [] h = h
-bytes-drop (suc n) (x ∷ a) h = bytes-drop n a (λ j. h (suc j))
-
-pub bytes-tab : (n : ℕ) (f : ℕ → ℕ) → ((i : ℕ) → f i < 256) → Bytes (tab n f)
-unfolding tab
-bytes-tab zero f h i = omega arith
-bytes-tab (suc n) f h zero = h 0
-bytes-tab (suc n) f h (suc i) = bytes-tab n (λ i. f (suc i)) (λ i. h (suc i)) i
 
 xorByte-lt : (a b : ℕ) → a < 256 → b < 256 → xorByte a b < 256
 unfolding xorByte

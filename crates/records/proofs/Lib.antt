@@ -1,0 +1,4 @@
+-- Encoding and decoding are each other's inverses.
+pub mod Shapes
+pub mod There
+pub mod Back
