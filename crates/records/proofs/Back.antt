@@ -91,7 +91,7 @@ front-back (a ∷ (b ∷ (c ∷ (d ∷ q)))) k p h e =
     let s : List ℕ = a ∷ b ∷ c ∷ d ∷ q in
     let got : Front = front (c + 256 * d) (take (a + 256 * b) q) in
     let e1 : (ltb (length s) 4 ≡ false) × (pick (ltb (length s - 4) (a + 256 * b)) cut got ≡ front k p) =
-          pick-front (ltb (length s) 4) (pick (ltb (length s - 4) (a + 256 * b)) cut got) e
+    pick-front (ltb (length s) 4) (pick (ltb (length s - 4) (a + 256 * b)) cut got) e
     in
     let e2 : (ltb (length s - 4) (a + 256 * b) ≡ false) × (got ≡ front k p) = pick-front (ltb (length s - 4) (a + 256 * b)) got (e1 .1) in
     let fits : a + 256 * b ≤ length q = omega (arith, ltb-false (length s - 4) (a + 256 * b) (e2 .0)) in
@@ -103,7 +103,7 @@ unfolding frontOf
 front-bytes s k p h e =
     let got : Front = front (word s 2) (take (word s 0) (drop 4 s)) in
     let e1 : (ltb (length s) 4 ≡ false) × (pick (ltb (length s - 4) (word s 0)) cut got ≡ front k p) =
-          pick-front (ltb (length s) 4) (pick (ltb (length s - 4) (word s 0)) cut got) e
+    pick-front (ltb (length s) 4) (pick (ltb (length s - 4) (word s 0)) cut got) e
     in
     let e2 : (ltb (length s - 4) (word s 0) ≡ false) × (got ≡ front k p) = pick-front (ltb (length s - 4) (word s 0)) got (e1 .1) in
     let is : got ≡ front k p = e2 .1 in
@@ -152,7 +152,7 @@ digit-in : (top : ℕ) (name : ℕ → Tree) (p : List ℕ) (t : Tree) (n : ℕ)
 unfolding digitIn
 digit-in top name p t n e =
     let h : (eqb (length p) 1 ≡ true) × (pick (ltb (getD p 0 0) top) (item (name (getD p 0 0)) 5) noItem ≡ item t n) =
-          pick-item (eqb (length p) 1) (pick (ltb (getD p 0 0) top) (item (name (getD p 0 0)) 5) noItem) e
+    pick-item (eqb (length p) 1) (pick (ltb (getD p 0 0) top) (item (name (getD p 0 0)) 5) noItem) e
     in
     let g : (ltb (getD p 0 0) top ≡ true) × (item (name (getD p 0 0)) 5 ≡ item t n) = pick-item (ltb (getD p 0 0) top) (item (name (getD p 0 0)) 5) (h .1) in
     let i : item (name (getD p 0 0)) 5 ≡ item t n = g .1 in
@@ -258,7 +258,7 @@ module _ (inner : Bool) (d : ℕ) (sub : List ℕ → Item) (ih : Sub inner d su
   unfolding threeIn
   three-in call e =
       let (a, u, ea, e1) =
-            then-item (sub p) (λ a u. thenItem (sub (drop u p)) (λ b v. thenItem (sub (drop (u + v) p)) (λ c w. filled (u + v + w) p (call a b c)))) e
+      then-item (sub p) (λ a u. thenItem (sub (drop u p)) (λ b v. thenItem (sub (drop (u + v) p)) (λ c w. filled (u + v + w) p (call a b c)))) e
       in
       let (b, v, eb, e2) = then-item (sub (drop u p)) (λ b v. thenItem (sub (drop (u + v) p)) (λ c w. filled (u + v + w) p (call a b c))) e1 in
       let (c, w, ec, e3) = then-item (sub (drop (u + v) p)) (λ c w. filled (u + v + w) p (call a b c)) e2 in
@@ -275,18 +275,18 @@ module _ (inner : Bool) (d : ℕ) (sub : List ℕ → Item) (ih : Sub inner d su
         takes = en;
         fineA = A .fine;
         fineB = B .fine;
-        fineC = D .fine
+        fineC = D .fine;
       }
 
   four-in : (call : Tree → Tree → Tree → Tree → Tree) → fourIn sub call p ≡ item t n → Four inner d call p t n
   unfolding fourIn
   four-in call e =
       let (a, u, ea, e1) =
-            then-item (sub p) (λ a u. thenItem (sub (drop u p)) (λ b v. thenItem (sub (drop (u + v) p)) (λ c w.
-            thenItem (sub (drop (u + v + w) p)) (λ d x. filled (u + v + w + x) p (call a b c d))))) e
+      then-item (sub p) (λ a u. thenItem (sub (drop u p)) (λ b v. thenItem (sub (drop (u + v) p)) (λ c w.
+      thenItem (sub (drop (u + v + w) p)) (λ d x. filled (u + v + w + x) p (call a b c d))))) e
       in
       let (b, v, eb, e2) =
-            then-item (sub (drop u p)) (λ b v. thenItem (sub (drop (u + v) p)) (λ c w. thenItem (sub (drop (u + v + w) p)) (λ d x. filled (u + v + w + x) p (call a b c d)))) e1
+      then-item (sub (drop u p)) (λ b v. thenItem (sub (drop (u + v) p)) (λ c w. thenItem (sub (drop (u + v + w) p)) (λ d x. filled (u + v + w + x) p (call a b c d)))) e1
       in
       let (c, w, ec, e3) = then-item (sub (drop (u + v) p)) (λ c w. thenItem (sub (drop (u + v + w) p)) (λ d x. filled (u + v + w + x) p (call a b c d))) e2 in
       let (g, x, eg, e4) = then-item (sub (drop (u + v + w) p)) (λ d x. filled (u + v + w + x) p (call a b c d)) e3 in
@@ -306,7 +306,7 @@ module _ (inner : Bool) (d : ℕ) (sub : List ℕ → Item) (ih : Sub inner d su
         fineA = A .fine;
         fineB = B .fine;
         fineC = D .fine;
-        fineE = G .fine
+        fineE = G .fine;
       }
 
 -- a call one level above its arguments
@@ -316,7 +316,7 @@ module _ (inner : Bool) (d k : ℕ) (p : List ℕ) (t : Tree) (n : ℕ) where
   one-made h T =
       let da = T .fineA .deep in
       let f : Fine inner (suc d) (one k (T .a)) =
-            record { proper = (h, T .fineA .proper); small = T .fineA .small; deep = omega arith; free = λ e. T .fineA .free e }
+      record { proper = (h, T .fineA .proper); small = T .fineA .small; deep = omega arith; free = λ e. T .fineA .free e }
       in
       subst (λ t. Made inner (suc d) k p t n) (T .tree) (record { is = ap (recordOf k) (T .joined); takes = T .takes; fine = f })
 
@@ -326,12 +326,12 @@ module _ (inner : Bool) (d k : ℕ) (p : List ℕ) (t : Tree) (n : ℕ) where
       let da = T .fineA .deep in
       let db = T .fineB .deep in
       let f : Fine inner (suc d) (two k (T .a) (T .b)) =
-            record {
-              proper = (h, T .fineA .proper, T .fineB .proper);
-              small = (T .fineA .small, T .fineB .small);
-              deep = omega arith;
-              free = λ e. (T .fineA .free e, T .fineB .free e)
-            }
+      record {
+        proper = (h, T .fineA .proper, T .fineB .proper);
+        small = (T .fineA .small, T .fineB .small);
+        deep = omega arith;
+        free = λ e. (T .fineA .free e, T .fineB .free e);
+      }
       in
       subst (λ t. Made inner (suc d) k p t n) (T .tree) (record { is = ap (recordOf k) (T .joined); takes = T .takes; fine = f })
 
@@ -342,12 +342,12 @@ module _ (inner : Bool) (d k : ℕ) (p : List ℕ) (t : Tree) (n : ℕ) where
       let db = T .fineB .deep in
       let dc = T .fineC .deep in
       let f : Fine inner (suc d) (three k (T .a) (T .b) (T .c)) =
-            record {
-              proper = (h, w, T .fineA .proper, T .fineB .proper, T .fineC .proper);
-              small = (T .fineA .small, T .fineB .small, T .fineC .small);
-              deep = omega arith;
-              free = λ e. (T .fineA .free e, T .fineB .free e, T .fineC .free e)
-            }
+      record {
+        proper = (h, w, T .fineA .proper, T .fineB .proper, T .fineC .proper);
+        small = (T .fineA .small, T .fineB .small, T .fineC .small);
+        deep = omega arith;
+        free = λ e. (T .fineA .free e, T .fineB .free e, T .fineC .free e);
+      }
       in
       subst (λ t. Made inner (suc d) k p t n) (T .tree) (record { is = ap (recordOf k) (T .joined); takes = T .takes; fine = f })
 
@@ -358,12 +358,12 @@ module _ (inner : Bool) (d k : ℕ) (p : List ℕ) (t : Tree) (n : ℕ) where
       let db = T .fineB .deep in
       let dc = T .fineC .deep in
       let f : Fine inner (suc d) (when (T .a) (T .b) (T .c)) =
-            record {
-              proper = (T .fineA .proper, T .fineB .proper, T .fineC .proper);
-              small = (T .fineA .small, T .fineB .small, T .fineC .small);
-              deep = omega arith;
-              free = λ e. (T .fineA .free e, T .fineB .free e, T .fineC .free e)
-            }
+      record {
+        proper = (T .fineA .proper, T .fineB .proper, T .fineC .proper);
+        small = (T .fineA .small, T .fineB .small, T .fineC .small);
+        deep = omega arith;
+        free = λ e. (T .fineA .free e, T .fineB .free e, T .fineC .free e);
+      }
       in
       subst (λ t. Made inner (suc d) k p t n) (T .tree) (record { is = ap₂ recordOf w (T .joined); takes = T .takes; fine = f })
 
@@ -375,12 +375,12 @@ module _ (inner : Bool) (d k : ℕ) (p : List ℕ) (t : Tree) (n : ℕ) where
       let dc = T .fineC .deep in
       let de = T .fineE .deep in
       let f : Fine inner (suc d) (four k (T .a) (T .b) (T .c) (T .e)) =
-            record {
-              proper = (h, T .fineA .proper, T .fineB .proper, T .fineC .proper, T .fineE .proper);
-              small = (T .fineA .small, T .fineB .small, T .fineC .small, T .fineE .small);
-              deep = omega arith;
-              free = λ i. (T .fineA .free i, T .fineB .free i, T .fineC .free i, T .fineE .free i)
-            }
+      record {
+        proper = (h, T .fineA .proper, T .fineB .proper, T .fineC .proper, T .fineE .proper);
+        small = (T .fineA .small, T .fineB .small, T .fineC .small, T .fineE .small);
+        deep = omega arith;
+        free = λ i. (T .fineA .free i, T .fineB .free i, T .fineC .free i, T .fineE .free i);
+      }
       in
       subst (λ t. Made inner (suc d) k p t n) (T .tree) (record { is = ap (recordOf k) (T .joined); takes = T .takes; fine = f })
 
@@ -448,7 +448,7 @@ image-is inner s t h few S =
       is = S .same ∙ ap (λ l. encode t ++ l) (drop-length s) ∙ append-nil (encode t);
       within = record { proper = S .fine .proper; small = S .fine .small; shallow = S .fine .deep; few = few };
       free = S .fine .free;
-      size = h
+      size = h;
     }
 
 pub image-back : (inner : Bool) (s : List ℕ) (t : Tree) → Bytes s → imageWith inner s ≡ image t → IsImage inner s t

@@ -2,3 +2,5 @@
 pub mod Shapes
 pub mod There
 pub mod Back
+pub mod Bytes
+pub mod Examples

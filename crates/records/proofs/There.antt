@@ -75,7 +75,7 @@ module _ (sub : List ℕ → Item) where
   four-there call a b c d p q r s ea eb ec ed =
       let sum : length p + length q + length r ≡ length p + (length q + length r) = omega arith in
       let reach : drop (length p + length q + length r) (p ++ (q ++ (r ++ s))) ≡ s =
-            ap (λ n. drop n (p ++ (q ++ (r ++ s)))) sum ∙ drop-append-add p (q ++ (r ++ s)) (length q + length r) ∙ drop-append-add q (r ++ s) (length r) ∙ drop-append-seam r s
+      ap (λ n. drop n (p ++ (q ++ (r ++ s)))) sum ∙ drop-append-add p (q ++ (r ++ s)) (length q + length r) ∙ drop-append-add q (r ++ s) (length r) ∙ drop-append-seam r s
       in
       rw (ea, drop-append-seam p (q ++ (r ++ s)), eb, drop-append-add p (q ++ (r ++ s)) (length q), drop-append-seam q (r ++ s), ec, reach, ed)
       (fill _ (p ++ (q ++ (r ++ s))) (call a b c d) (simp length-append (omega arith)))
