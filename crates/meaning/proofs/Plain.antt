@@ -18,7 +18,8 @@ use Rattle.tree.specs.Bounds.{Bytes}
 use Rattle.tree.proofs.Bytes.{bytes-append, bytes-take, bytes-tab}
 use Rattle.meaning.specs.Mean.{Calls}
 use Rattle.meaning.specs.Real.{cat, xorByte, xorBytes, xor, same, eq, head, Cipher, ciphered, realTwo, real}
-use Rattle.meaning.specs.Values.{IsValue, Valued, CallsValued, AllValues, CipherValued}
+use Rattle.tree.specs.Values.{IsValue}
+use Rattle.meaning.specs.Values.{Valued, CallsValued, AllValues, CipherValued}
 use Rattle.meaning.proofs.Binds.{no-value, same-value}
 
 -- a choice between a value and a refusal is a value only by the test

@@ -15,7 +15,8 @@ use Rattle.tree.specs.Names.Given.{given, nothing}
 use Rattle.meaning.specs.Mean.{Calls, named, Side, sideOf, chosen, mean}
 use Rattle.meaning.specs.Mean.Side.{first, second, neither}
 use Rattle.meaning.specs.Fold.{constantOf, orStays, sideOr, foldWhen, foldOne, foldTwo, foldThree, foldFour, fold}
-use Rattle.meaning.specs.Values.{IsValue, Valued, BindingValued, RunningValued, CallsValued}
+use Rattle.tree.specs.Values.{IsValue, BindingValued, RunningValued}
+use Rattle.meaning.specs.Values.{Valued, CallsValued}
 use Rattle.meaning.proofs.Binds.{no-value, no-given, same-value, named-value}
 use Rattle.meaning.proofs.Constants.{constant-always}
 

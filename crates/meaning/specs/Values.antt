@@ -1,30 +1,16 @@
--- Calls that give values (document 01, section 5: a value is 0 to 1,024 bytes).
+-- Calls that give values (document 01, section 5).
 use mathlib.Core.Path.{_≡_}
 use mathlib.Core.List.{List, [], _∷_}
-use Prim.Native.Nat.{ℕ, _≤_}
-use lib.ListN.{length}
+use Prim.Native.Nat.{ℕ}
 use Rattle.common.specs.Answer.{Value, Answer}
 use Rattle.common.specs.Answer.Answer.{value, refused}
-use Rattle.tree.specs.Bounds.{Bytes}
-use Rattle.tree.specs.Names.{Given, Binding, Running}
-use Rattle.tree.specs.Names.Given.{given, nothing}
+use Rattle.tree.specs.Values.{IsValue}
 use Rattle.meaning.specs.Mean.{Calls}
 use Rattle.meaning.specs.Real.{Cipher}
-
-pub record IsValue (v : Value) : Type 0 where
-  pub short : length v ≤ 1024
-  pub bytes : Bytes v
 
 -- an answer that is a value, if it is one at all
 abbrev pub Valued : Answer → Type 0
 Valued r = (v : Value) → r ≡ value v → IsValue v
-
-abbrev pub BindingValued : Binding → Type 0
-BindingValued K = (n : ℕ) (v : Value) → K n ≡ given v → IsValue v
-
-pub record RunningValued (E : Running) : Type 0 where
-  pub rowsValued : BindingValued (E .rows)
-  pub runsValued : BindingValued (E .runs)
 
 -- of values the calls make values
 pub record CallsValued (C : Calls) : Type 0 where

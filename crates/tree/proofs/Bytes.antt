@@ -28,3 +28,12 @@ unfolding tab
 bytes-tab zero f h i = omega arith
 bytes-tab (suc n) f h zero = h 0
 bytes-tab (suc n) f h (suc i) = bytes-tab n (λ i. f (suc i)) (λ i. h (suc i)) i
+
+pub bytes-left : (a b : Value) → Bytes (a ++ b) → Bytes a
+bytes-left [] b h i = omega arith
+bytes-left (x ∷ a) b h zero = h 0
+bytes-left (x ∷ a) b h (suc i) = bytes-left a b (λ j. h (suc j)) i
+
+pub bytes-right : (a b : Value) → Bytes (a ++ b) → Bytes b
+bytes-right [] b h = h
+bytes-right (x ∷ a) b h = bytes-right a b (λ j. h (suc j))

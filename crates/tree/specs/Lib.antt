@@ -4,3 +4,4 @@ pub mod Calls
 pub mod Bounds
 pub mod Reading
 pub mod Names
+pub mod Values

@@ -1,0 +1,4 @@
+-- Which lists are good, and what they give.
+pub mod Exactly
+pub mod Values
+pub mod Examples

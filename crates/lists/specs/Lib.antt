@@ -1,0 +1,4 @@
+-- Lists of values.
+pub mod Entries
+pub mod Given
+pub mod Good
