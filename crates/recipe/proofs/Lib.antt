@@ -1,0 +1,3 @@
+-- What joins preparing and running.
+pub mod Scan
+pub mod Demand

@@ -1,0 +1,6 @@
+-- Preparing and running as wholes.
+pub mod Places
+pub mod Outcome
+pub mod Prepare
+pub mod Run
+pub mod Keeps
