@@ -2,3 +2,4 @@
 pub mod Tree
 pub mod Calls
 pub mod Bounds
+pub mod Reading

@@ -1,0 +1,2 @@
+-- Laws of reading and spelling.
+pub mod Examples
