@@ -1,2 +1,7 @@
 -- Laws of reading and spelling.
 pub mod Examples
+pub mod Standing
+pub mod Table
+pub mod Width
+pub mod Leaves
+pub mod Spelt
