@@ -5,3 +5,5 @@ pub mod Table
 pub mod Width
 pub mod Leaves
 pub mod Spelt
+pub mod LeavesBack
+pub mod Back

@@ -137,7 +137,7 @@ unfolding Pass byStart
 call-start d s p n [] y some pass h e = absurd (omega arith)
 call-start d s p n (x ∷ w) y some pass h e = start-read d s p n x (w ++ y) h e ∙ rw (start-letter x (pass .0))
 
-name-is : (k : ℕ) (r : Call) → rowIn calls k ≡ known r → nameOf k ≡ r .letters ++ suitePart (r .suited) (k - r .kind)
+pub name-is : (k : ℕ) (r : Call) → rowIn calls k ≡ known r → nameOf k ≡ r .letters ++ suitePart (r .suited) (k - r .kind)
 unfolding nameOf nameBy
 name-is k r e = rw e
 
