@@ -7,3 +7,7 @@ pub mod Leaves
 pub mod Spelt
 pub mod LeavesBack
 pub mod Back
+pub mod Numbers
+pub mod Exactly
+pub mod Unbound
+pub mod Offsets

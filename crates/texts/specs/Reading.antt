@@ -153,3 +153,10 @@ readText s = endAt s (exprAt 16 s 0 0)
 -- 21 is judged before reading, its place is 0
 unfoldable pub takeText : List ℕ → Read
 takeText s = pick (leb (length s) 4096) (readText s) (wrong 21 0)
+
+-- the numbers that reading gives
+pub data ReadingNumber : ℕ → Type 0 where
+  syntax : ReadingNumber 20
+  deep : ReadingNumber 22
+  many : ReadingNumber 23
+  long : ReadingNumber 6
