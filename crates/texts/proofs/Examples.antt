@@ -1,16 +1,23 @@
 -- Texts with what reading them gives: both sides of each rule of sections 5 and 7.
+use mathlib.Core.Bool.{Bool}
 use mathlib.Core.List.{List, [], _∷_, _++_}
 use mathlib.Core.Path.{_≡_, refl}
-use Prim.Native.Nat.{ℕ, zero, suc, _+_}
+use Prim.Native.Nat.{ℕ, zero, suc, _+_, _*_}
 use Prim.Native.Char.{code}
 use Prim.Native.String.{String, [] as none, _∷_ as _∷ᶜ_}
+use lib.Dec.{eqb}
+use lib.ListN.{replicate}
 use Rattle.common.specs.Choice.{pick}
 use Rattle.common.specs.Places.{tab}
 use Rattle.tree.specs.Tree.{Tree}
 use Rattle.tree.specs.Tree.Tree.{literal, bound, row, run, one, two, three, four, when}
 use Rattle.tree.specs.Calls.{calls, plain, cipher}
+use Rattle.tree.specs.Bounds.{ofRow}
 use Rattle.tree.specs.Reading.{Read}
 use Rattle.tree.specs.Reading.Read.{got, wrong}
+use Rattle.texts.specs.Spelling.{spell, pairs, hexDigit, nameOf, nameBy, rowIn, suitePart, listed, width, headWidth, nameWidth}
+use Rattle.texts.specs.Unbound.{Place, later, first, unboundAt, unboundIn}
+use Rattle.texts.specs.Unbound.Place.{at, nowhere}
 use Rattle.texts.specs.Reading.{
   readText,
   takeText,
@@ -247,6 +254,15 @@ node-129 : reads (pairOf even even) ≡ wrong 23 510
 unfolding reads pairOf even
 node-129 = refl
 
+-- 128 nodes, and the text ends where the next is due
+cut : List ℕ
+unfolding text wide even
+cut = text "cat(" ++ (even ++ (text ",when(" ++ (wide 4 ++ (44 ∷ (wide 4 ++ text ",")))))
+
+many-at-the-end : reads cut ≡ wrong 23 510
+unfolding reads cut
+many-at-the-end = refl
+
 -- 128 nodes, and then an expression is due at depth 17
 both : List ℕ
 unfolding text wide
@@ -257,3 +273,87 @@ both =
 deep-before-many : reads both ≡ wrong 22 497
 unfolding reads both
 deep-before-many = refl
+
+-- a literal of n times the byte AA
+unfoldable pub long : ℕ → List ℕ
+long n = 39 ∷ (replicate (2 * n) 65 ++ 39 ∷ [])
+
+literal-1025 : reads (long 1025) ≡ wrong 6 0
+unfolding reads long
+literal-1025 = refl
+
+-- no end, however long: the length
+no-end : reads (39 ∷ replicate 2100 65) ≡ wrong 20 2101
+unfolding reads
+no-end = refl
+
+-- an odd count of digits, however long: the closing quote
+odd-end : reads (39 ∷ (replicate 2051 65 ++ 39 ∷ [])) ≡ wrong 20 2052
+unfolding reads
+odd-end = refl
+
+-- 6 wins over what follows
+long-then-bad : reads (text "cat(" ++ (long 1025 ++ text "!")) ≡ wrong 6 4
+unfolding reads text long
+long-then-bad = refl
+
+-- and loses to what is before
+bad-then-long : reads (text "cat('4'," ++ long 1025) ≡ wrong 20 6
+unfolding reads text long
+bad-then-long = refl
+
+takes : List ℕ → Read
+unfolding takeText reads pick
+takes s = takeText s
+
+-- 4,096 bytes are read
+text-4096 : takes (39 ∷ replicate 4095 65) ≡ wrong 20 4096
+unfolding takes
+text-4096 = refl
+
+-- one more is not
+text-4097 : takes (39 ∷ replicate 4096 65) ≡ wrong 21 0
+unfolding takes
+text-4097 = refl
+
+spelt : Tree → List ℕ
+unfolding spell pairs hexDigit nameOf nameBy rowIn suitePart listed ofRow calls plain cipher pick
+spelt t = spell t
+
+-- trees as texts
+spelling :
+    (spelt (literal (0x0F ∷ 0x9A ∷ [])) ≡ text "'0F9A'")
+    × (spelt (bound 3) ≡ text "#3")
+    × (spelt (row 7) ≡ text "$7")
+    × (spelt (run 0) ≡ text "@0")
+    × (spelt (two 0x0010 (two 0x0010 (literal (0x41 ∷ [])) (bound 0)) (run 1)) ≡ text "cat(cat('41',#0),@1)")
+    × (spelt (when (literal (1 ∷ [])) (row 0) (two 0x0011 (literal (0x41 ∷ [])) (literal (0x41 ∷ 0x42 ∷ [])))) ≡ text "when('01',$0,xor('41','4142'))")
+    × (spelt (three 0x0195 (row 0) (run 0) (two 0x0013 (bound 1) (row 2))) ≡ text "uncbp.5($0,@0,head(#1,$2))")
+    × (spelt (two 0x01A3 (row 0) (row 1)) ≡ text "mac.3($0,$1)")
+unfolding text spelt
+spelling = (refl, refl, refl, refl, refl, refl, refl, refl)
+
+-- #0 alone has a value
+zeroth : ℕ → Bool
+zeroth n = eqb n 0
+
+first-of : String → Place
+unfolding text unboundIn later pick zeroth
+first-of t = unboundIn zeroth (text t)
+
+unbound : Tree → Place
+unfolding unboundAt later first width headWidth nameWidth rowIn ofRow calls plain cipher pick zeroth
+unbound t = unboundAt zeroth t
+
+-- the first unbound `#`, dropped sides included
+unbounds :
+    (unbound (two 0x0010 (bound 0) (bound 1)) ≡ at 7)
+    × (first-of "cat(#0,#1)" ≡ at 7)
+    × (unbound (when (literal (1 ∷ [])) (bound 0) (two 0x0011 (row 0) (bound 2))) ≡ at 20)
+    × (first-of "when('01',#0,xor($0,#2))" ≡ at 20)
+    × (unbound (three 0x0195 (bound 3) (bound 0) (bound 2)) ≡ at 8)
+    × (first-of "uncbp.5(#3,#0,#2)" ≡ at 8)
+    × (unbound (two 0x0010 (bound 0) (row 1)) ≡ nowhere)
+    × (first-of "cat(#0,$1)" ≡ nowhere)
+unfolding unbound first-of
+unbounds = (refl, refl, refl, refl, refl, refl, refl, refl)

@@ -1,64 +1,65 @@
--- Literals of 1,024 and 1,025 bytes, texts of 4,096 and 4,097 (document 01, sections 5 and 7).
-use mathlib.Core.List.{List, [], _∷_, _++_}
-use mathlib.Core.Path.{_≡_, refl}
-use Prim.Native.Nat.{ℕ, _*_}
-use lib.ListN.{replicate}
+-- A literal of 1,024 bytes and a text of 4,096 that reads to a tree (document 01, section 5).
+use mathlib.Core.List.{List, [], _∷_}
+use mathlib.Core.Path.{_≡_, refl, sym, ap, _∙_}
+use Prim.Native.Nat.{ℕ, zero, suc, _+_, _≤_, _<_}
+use native.Mathlib.Omega.{arith}
+use lib.ListN.{length, getD, replicate, length-replicate}
 use Rattle.common.specs.Choice.{pick}
 use Rattle.tree.specs.Tree.{Tree}
 use Rattle.tree.specs.Tree.Tree.{literal, two}
+use Rattle.tree.specs.Calls.{calls, plain, cipher}
+use Rattle.tree.specs.Bounds.{depth, nodes, ofRow, argumentsIn, argumentsOf, Bytes, Proper, Small, Within}
 use Rattle.tree.specs.Reading.{Read}
 use Rattle.tree.specs.Reading.Read.{got, wrong}
+use Rattle.texts.specs.Spelling.{spell, width, headWidth, nameWidth, rowIn}
 use Rattle.texts.specs.Reading.{takeText}
-use Rattle.texts.proofs.Examples.{text, reads}
+use Rattle.texts.proofs.Examples.{reads, long}
+use Rattle.texts.proofs.Width.{length-spell}
+use Rattle.texts.proofs.Spelt.{take-spell}
 
--- a literal of n times the byte AA
-long : ℕ → List ℕ
-long n = 39 ∷ (replicate (2 * n) 65 ++ 39 ∷ [])
-
+-- n times the byte AA
 bytes : ℕ → Tree
 bytes n = literal (replicate n 0xAA)
 
+-- the longest literal, by computing
 literal-1024 : reads (long 1024) ≡ got (bytes 1024)
 unfolding reads long bytes
 literal-1024 = refl
 
-literal-1025 : reads (long 1025) ≡ wrong 6 0
-unfolding reads long
-literal-1025 = refl
+replicate-bytes : (n : ℕ) → Bytes (replicate n 0xAA)
+replicate-bytes zero i = omega arith
+replicate-bytes (suc n) zero = omega arith
+replicate-bytes (suc n) (suc i) = replicate-bytes n i
 
--- no end, however long: the length
-no-end : reads (39 ∷ replicate 2100 65) ≡ wrong 20 2101
-unfolding reads
-no-end = refl
+-- cat of n and m bytes
+joined : ℕ → ℕ → Tree
+joined n m = two 0x0010 (literal (replicate n 0xAA)) (literal (replicate m 0xAA))
 
--- an odd count of digits, however long: the closing quote
-odd-end : reads (39 ∷ (replicate 2051 65 ++ 39 ∷ [])) ≡ wrong 20 2052
-unfolding reads
-odd-end = refl
+cat-two : argumentsOf 0x0010 ≡ 2
+unfolding argumentsOf argumentsIn calls plain cipher ofRow pick
+cat-two = refl
 
--- 6 wins over what follows
-long-then-bad : reads (text "cat(" ++ (long 1025 ++ text "!")) ≡ wrong 6 4
-unfolding reads text long
-long-then-bad = refl
+joined-within : (n m : ℕ) → n ≤ 1024 → m ≤ 1024 → Within (joined n m)
+unfolding joined Proper Small depth nodes
+joined-within n m h k =
+    record {
+      proper = (cat-two, replicate-bytes n, replicate-bytes m);
+      small = (omega (arith, length-replicate {A = ℕ} n 0xAA), omega (arith, length-replicate {A = ℕ} m 0xAA));
+      shallow = omega arith;
+      few = omega arith;
+    }
 
--- and loses to what is before
-bad-then-long : reads (text "cat('',')," ++ long 1025) ≡ wrong 20 8
-unfolding reads text long
-bad-then-long = refl
+cat-head : headWidth 0x0010 ≡ 4
+unfolding headWidth nameWidth rowIn calls plain cipher ofRow pick
+cat-head = refl
 
-takes : List ℕ → Read
-unfolding takeText reads pick
-takes s = takeText s
+joined-width : (n m : ℕ) → width (joined n m) ≡ n + n + (m + m) + 10
+unfolding joined width
+joined-width n m = omega (arith, cat-head, length-replicate {A = ℕ} n 0xAA, length-replicate {A = ℕ} m 0xAA)
 
--- 4,096 bytes
-full : List ℕ
-unfolding text long
-full = text "cat(" ++ (long 1024 ++ 44 ∷ (long 1019 ++ text ")"))
-
-text-4096 : takes full ≡ got (two 0x0010 (bytes 1024) (bytes 1019))
-unfolding takes full bytes
-text-4096 = refl
-
-text-4097 : takes (full ++ text " ") ≡ wrong 21 0
-unfolding takes full text
-text-4097 = refl
+-- a text of 4,096 bytes that reads to a tree
+text-4096 : (length (spell (joined 1024 1019)) ≡ 4096) × (takeText (spell (joined 1024 1019)) ≡ got (joined 1024 1019))
+text-4096 = (
+  length-spell (joined 1024 1019) ∙ joined-width 1024 1019,
+  take-spell (joined 1024 1019) (joined-within 1024 1019 (omega arith) (omega arith)) (omega (arith, joined-width 1024 1019)),
+)
