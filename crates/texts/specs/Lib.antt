@@ -1,0 +1,4 @@
+-- Recipes as text.
+pub mod Spelling
+pub mod Reading
+pub mod Unbound
