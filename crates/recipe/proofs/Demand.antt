@@ -34,14 +34,20 @@ use Rattle.lists.specs.Entries.{Entry, Listed, preparing, running, listOf}
 use Rattle.lists.specs.Entries.Listed.{listed, badList}
 use Rattle.lists.specs.Given.{bindingOf, runningOf}
 use Rattle.lists.proofs.Values.{binding-valued}
-use Rattle.recipe.specs.Places.{Place, firstUnbound}
-use Rattle.recipe.specs.Places.Place.{at, nowhere}
+use Rattle.texts.specs.Spelling.{spell}
+use Rattle.texts.specs.Reading.{readText, ReadingNumber}
+use Rattle.texts.specs.Reading.ReadingNumber.{syntax, deep, many, long}
+use Rattle.texts.specs.Unbound.{Place, unboundIn}
+use Rattle.texts.specs.Unbound.Place.{at, nowhere}
+use Rattle.texts.proofs.Numbers as TextNumbers
+use Rattle.texts.proofs.Numbers.Outcome.{reads, refuses}
+use Rattle.texts.proofs.Exactly.{reads-exactly}
 use Rattle.recipe.specs.Outcome.{Outcome, cleared, outcome, inRoom}
-use Rattle.recipe.specs.Prepare.{Prepared, answerOf, placeOf, sized, afterScan, afterList, afterRead, preparedOf, prepareOf}
+use Rattle.recipe.specs.Prepare.{Prepared, answerOf, placeOf, sized, has, afterScan, afterList, afterRead, preparedOf, prepareOf}
 use Rattle.recipe.specs.Prepare.Prepared.{made, stopped}
 use Rattle.recipe.specs.Run.{meantWith, afterImage, ranOf, runOf}
-use Rattle.recipe.specs.Keeps.{Reader, Keeps}
-use Rattle.recipe.proofs.Scan.{all-bound}
+use Rattle.recipe.specs.Keeps.{Keeps}
+use Rattle.recipe.proofs.Scan.{scan-exactly}
 
 not-made : {n p : ℕ} {b : List ℕ} → stopped n p ≡ made b → ⊥
 not-made e = let z : _≡_ {A = ℕ} 0 1 = cc in omega arith
@@ -58,30 +64,51 @@ sized-numbered : (b : List ℕ) → Numbered (sized b)
 unfolding sized Numbered
 sized-numbered b = pick-all Numbered _ _ _ (λ e. tt) (λ e q. omega arith)
 
-module _ (read : List ℕ → Read) (cipher : Cipher) (reader : Reader read) where
+-- reading refuses with 20, 22, 23 or 6
+reading-numbers : (n : ℕ) → ReadingNumber n → n ≡ 0 → ⊥
+reading-numbers n syntax e = omega arith
+reading-numbers n deep e = omega arith
+reading-numbers n many e = omega arith
+reading-numbers n long e = omega arith
+
+got-wrong : {t : Tree} {n p : ℕ} → got t ≡ wrong n p → ⊥
+got-wrong e = let z : _≡_ {A = ℕ} 0 1 = cc in omega arith
+
+same-number : {n p m q : ℕ} → wrong n p ≡ wrong m q → n ≡ m
+same-number e = cc
+
+reading-numbered : (text : List ℕ) (n p : ℕ) → TextNumbers.Outcome text → readText text ≡ wrong n p → n ≡ 0 → ⊥
+reading-numbered text n p (reads t e) f q = got-wrong (sym e ∙ f)
+reading-numbered text n p (refuses m w k l e) f q = reading-numbers m k (same-number (sym e ∙ f) ∙ q)
+
+-- no unbound `#` in the text is none in the tree
+scanned : (K : Binding) (text : List ℕ) (t : Tree) → unboundIn (has K) text ≡ nowhere → text ≡ spell t → AllBound K t
+scanned K text t e es = scan-exactly K t .0 (ap (unboundIn (has K)) (sym es) ∙ e)
+
+module _ (cipher : Cipher) where
   scan-numbered : (K : Binding) (t : Tree) (p : Place) → Numbered (afterScan cipher K t p)
   unfolding afterScan Numbered
   scan-numbered K t (at p) = λ q. omega arith
   scan-numbered K t nowhere = sized-numbered _
 
-  list-numbered : (t : Tree) (l : Listed) → Numbered (afterList cipher t l)
+  list-numbered : (text : List ℕ) (t : Tree) (l : Listed) → Numbered (afterList cipher text t l)
   unfolding afterList Numbered
-  list-numbered t (listed es) = scan-numbered (bindingOf es) t (firstUnbound (bindingOf es) t 0)
-  list-numbered t badList = λ q. omega arith
+  list-numbered text t (listed es) = scan-numbered (bindingOf es) t (unboundIn (has (bindingOf es)) text)
+  list-numbered text t badList = λ q. omega arith
 
-  read-numbered : (text list : List ℕ) (r : Read) → read text ≡ r → Numbered (afterRead cipher list r)
+  read-numbered : (text list : List ℕ) (r : Read) → readText text ≡ r → Numbered (afterRead cipher text list r)
   unfolding afterRead Numbered
-  read-numbered text list (got t) e = list-numbered t (listOf preparing list)
-  read-numbered text list (wrong n p) e = reader .numbered text n p e
+  read-numbered text list (got t) e = list-numbered text t (listOf preparing list)
+  read-numbered text list (wrong n p) e = reading-numbered text n p (TextNumbers.outcome text) e
 
-  pub prepared-numbered : (text list : List ℕ) → Numbered (preparedOf read cipher text list)
+  pub prepared-numbered : (text list : List ℕ) → Numbered (preparedOf cipher text list)
   unfolding preparedOf Numbered
-  prepared-numbered text list = pick-all Numbered _ _ _ (λ e. read-numbered text list (read text) refl) (λ e q. omega arith)
+  prepared-numbered text list = pick-all Numbered _ _ _ (λ e. read-numbered text list (readText text) refl) (λ e q. omega arith)
 
 -- what an image that was made says
-record Came (read : List ℕ → Read) (cipher : Cipher) (text list bytes : List ℕ) : Type 0 where
+record Came (cipher : Cipher) (text list bytes : List ℕ) : Type 0 where
   tree : Tree
-  isTree : read text ≡ got tree
+  isTree : readText text ≡ got tree
   entries : List Entry
   isList : listOf preparing list ≡ listed entries
   allBound : AllBound (bindingOf entries) tree
@@ -96,31 +123,31 @@ sized-made e b q = go (leb (length e) 16384) refl q
     go true h q = (same-made q, leb-true (length e) 16384 h)
     go false h q = absurd (not-made q)
 
-module _ (read : List ℕ → Read) (cipher : Cipher) (text list bytes : List ℕ) where
-  came-scan : (t : Tree) (es : List Entry) (p : Place) → read text ≡ got t → listOf preparing list ≡ listed es → firstUnbound (bindingOf es) t 0 ≡ p
-      → afterScan cipher (bindingOf es) t p ≡ made bytes → Came read cipher text list bytes
+module _ (cipher : Cipher) (text list bytes : List ℕ) where
+  came-scan : (t : Tree) (es : List Entry) (p : Place) → readText text ≡ got t → listOf preparing list ≡ listed es → unboundIn (has (bindingOf es)) text ≡ p
+      → afterScan cipher (bindingOf es) t p ≡ made bytes → Came cipher text list bytes
   unfolding afterScan
   came-scan t es (at p) et el ep e = absurd (not-made e)
   came-scan t es nowhere et el ep e =
       let s = sized-made (encode (fold (real cipher) (bindingOf es) t)) bytes e in
-      record { tree = t; isTree = et; entries = es; isList = el; allBound = all-bound (bindingOf es) t 0 ep; is = s .0; size = s .1 }
+      record { tree = t; isTree = et; entries = es; isList = el; allBound = scanned (bindingOf es) text t ep (reads-exactly text t .0 et .0); is = s .0; size = s .1 }
 
-  came-list : (t : Tree) (l : Listed) → read text ≡ got t → listOf preparing list ≡ l → afterList cipher t l ≡ made bytes → Came read cipher text list bytes
+  came-list : (t : Tree) (l : Listed) → readText text ≡ got t → listOf preparing list ≡ l → afterList cipher text t l ≡ made bytes → Came cipher text list bytes
   unfolding afterList
-  came-list t (listed es) et el e = came-scan t es (firstUnbound (bindingOf es) t 0) et el refl e
+  came-list t (listed es) et el e = came-scan t es (unboundIn (has (bindingOf es)) text) et el refl e
   came-list t badList et el e = absurd (not-made e)
 
-  came-read : (r : Read) → read text ≡ r → afterRead cipher list r ≡ made bytes → Came read cipher text list bytes
+  came-read : (r : Read) → readText text ≡ r → afterRead cipher text list r ≡ made bytes → Came cipher text list bytes
   unfolding afterRead
   came-read (got t) et e = came-list t (listOf preparing list) et refl e
   came-read (wrong n p) et e = absurd (not-made e)
 
-  came-text : (b : Bool) → pick b (afterRead cipher list (read text)) (stopped 21 0) ≡ made bytes → Came read cipher text list bytes
+  came-text : (b : Bool) → pick b (afterRead cipher text list (readText text)) (stopped 21 0) ≡ made bytes → Came cipher text list bytes
   unfolding pick
-  came-text true e = came-read (read text) refl e
+  came-text true e = came-read (readText text) refl e
   came-text false e = absurd (not-made e)
 
-  came : preparedOf read cipher text list ≡ made bytes → Came read cipher text list bytes
+  came : preparedOf cipher text list ≡ made bytes → Came cipher text list bytes
   unfolding preparedOf
   came e = came-text (leb (length text) 4096) e
 
@@ -135,16 +162,16 @@ module _ (cipher : Cipher) where
   unfolding runOf inRoom
   run-in-room bytes rows out work r e h = pick-false _ _ _ (le-ltb _ _ h) ∙ ap (λ r. outcome (deliver r out) 0 (cleared work)) e
 
-module _ (read : List ℕ → Read) (cipher : Cipher) (reader : Reader read) (valued : CipherValued cipher) (text list : List ℕ) (bytesOfList : Bytes list) where
-  came-image : (bytes : List ℕ) (M : Came read cipher text list bytes) → imageOf bytes ≡ image (fold (real cipher) (bindingOf (M .entries)) (M .tree))
+module _ (cipher : Cipher) (valued : CipherValued cipher) (text list : List ℕ) (bytesOfList : Bytes list) where
+  came-image : (bytes : List ℕ) (M : Came cipher text list bytes) → imageOf bytes ≡ image (fold (real cipher) (bindingOf (M .entries)) (M .tree))
   unfolding imageOf
   came-image bytes M =
       let K : Binding = bindingOf (M .entries) in
-      let w = fold-within (real cipher) K (real-valued cipher valued) (binding-valued preparing list (M .entries) bytesOfList (M .isList)) (M .tree) (reader .within text (M .tree) (M .isTree)) in
+      let w = fold-within (real cipher) K (real-valued cipher valued) (binding-valued preparing list (M .entries) bytesOfList (M .isList)) (M .tree) (reads-exactly text (M .tree) .0 (M .isTree) .1) in
       subst (λ b. imageWith false b ≡ image (fold (real cipher) K (M .tree))) (M .is)
       (image-encode false (fold (real cipher) K (M .tree)) w (λ e. no-bound-left (real cipher) K (M .tree) (M .allBound)) (M .size))
 
-  came-keeps : (bytes : List ℕ) → Came read cipher text list bytes → Keeps read cipher text list bytes
+  came-keeps : (bytes : List ℕ) → Came cipher text list bytes → Keeps cipher text list bytes
   came-keeps bytes M =
       record {
         tree = M .tree;
@@ -162,8 +189,8 @@ module _ (read : List ℕ → Read) (cipher : Cipher) (reader : Reader read) (va
       }
 
   -- what preparing makes keeps what the text says
-  pub made-keeps : (bytes : List ℕ) → preparedOf read cipher text list ≡ made bytes → Keeps read cipher text list bytes
-  made-keeps bytes e = came-keeps bytes (came read cipher text list bytes e)
+  pub made-keeps : (bytes : List ℕ) → preparedOf cipher text list ≡ made bytes → Keeps cipher text list bytes
+  made-keeps bytes e = came-keeps bytes (came cipher text list bytes e)
 
 -- done means an image, its length, and its bytes at the front of the output
 record Done (P : Prepared) (d : Delivered) : Type 0 where
@@ -196,15 +223,15 @@ in-room out work d p e = go (ltb (length work) 65536) e
     go false e = record { number = e; count = refl; out = refl }
 
 -- demand 3 whole: if preparing a text with a bound list answers done, the image that it wrote keeps what the text says with both lists
-pub prepared-keeps : (read : List ℕ → Read) (cipher : Cipher) → Reader read → CipherValued cipher → (text list out work : List ℕ) → Bytes list
-    → prepareOf read cipher text list out work .number ≡ 0
-    → Keeps read cipher text list (take (prepareOf read cipher text list out work .count) (prepareOf read cipher text list out work .out))
+pub prepared-keeps : (cipher : Cipher) → CipherValued cipher → (text list out work : List ℕ) → Bytes list
+    → prepareOf cipher text list out work .number ≡ 0
+    → Keeps cipher text list (take (prepareOf cipher text list out work .count) (prepareOf cipher text list out work .out))
 unfolding prepareOf
-prepared-keeps read cipher reader valued text list out work hl e =
-    let P : Prepared = preparedOf read cipher text list in
+prepared-keeps cipher valued text list out work hl e =
+    let P : Prepared = preparedOf cipher text list in
     let r = in-room out work (deliver (answerOf P) out) (placeOf P) e in
-    let d = deliver-done P out (prepared-numbered read cipher reader text list) (r .number) in
-    let same : d .image ≡ take (prepareOf read cipher text list out work .count) (prepareOf read cipher text list out work .out) =
+    let d = deliver-done P out (prepared-numbered cipher text list) (r .number) in
+    let same : d .image ≡ take (prepareOf cipher text list out work .count) (prepareOf cipher text list out work .out) =
     sym (d .front) ∙ ap₂ (λ (n : ℕ) (l : List ℕ). take n l) (sym (r .count)) (sym (r .out))
     in
-    subst (Keeps read cipher text list) same (made-keeps read cipher reader valued text list hl (d .image) (d .isMade))
+    subst (Keeps cipher text list) same (made-keeps cipher valued text list hl (d .image) (d .isMade))

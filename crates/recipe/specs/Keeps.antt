@@ -5,10 +5,9 @@ use Prim.Native.Nat.{ℕ, _≤_}
 use lib.ListN.{length, take}
 use Rattle.common.specs.Answer.{Answer, deliver}
 use Rattle.tree.specs.Tree.{Tree}
-use Rattle.tree.specs.Bounds.{Within}
 use Rattle.tree.specs.Names.{NoBound}
-use Rattle.tree.specs.Reading.{Read}
 use Rattle.tree.specs.Reading.Read.{got, wrong}
+use Rattle.texts.specs.Reading.{readText}
 use Rattle.meaning.specs.Mean.{mean}
 use Rattle.meaning.specs.Real.{Cipher, real}
 use Rattle.meaning.specs.Folded.{Folded}
@@ -20,15 +19,10 @@ use Rattle.lists.specs.Given.{bindingOf, runningOf}
 use Rattle.recipe.specs.Outcome.{outcome, cleared}
 use Rattle.recipe.specs.Run.{runOf}
 
--- a reader of texts: a tree that it gives is within the bounds, a refusal has a number
-pub record Reader (read : List ℕ → Read) : Type 0 where
-  pub within : (text : List ℕ) (t : Tree) → read text ≡ got t → Within t
-  pub numbered : (text : List ℕ) (n p : ℕ) → read text ≡ wrong n p → n ≡ 0 → ⊥
-
 -- the bytes keep what the text says with the bound list, for every run to come
-pub record Keeps (read : List ℕ → Read) (cipher : Cipher) (text list bytes : List ℕ) : Type 0 where
+pub record Keeps (cipher : Cipher) (text list bytes : List ℕ) : Type 0 where
   pub tree : Tree
-  pub isTree : read text ≡ got tree
+  pub isTree : readText text ≡ got tree
   pub entries : List Entry
   pub isList : listOf preparing list ≡ listed entries
   -- every good run list, output room and work room of 65,536 or more: the number, length and bytes that the text's tree means with both lists

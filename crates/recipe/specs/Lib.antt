@@ -1,5 +1,4 @@
 -- Preparing and running as wholes.
-pub mod Places
 pub mod Outcome
 pub mod Prepare
 pub mod Run
