@@ -61,7 +61,7 @@ module _ (K : Binding) where
       (all-bound a x, all-bound b y, all-bound c z)
   all-bound (four k a b c d) e =
       let (x, r) =
-            first-none (unboundAt (has K) a) (width a + 1) (first (unboundAt (has K) b) (width b + 1) (first (unboundAt (has K) c) (width c + 1) (unboundAt (has K) d))) (later-none _ _ e)
+      first-none (unboundAt (has K) a) (width a + 1) (first (unboundAt (has K) b) (width b + 1) (first (unboundAt (has K) c) (width c + 1) (unboundAt (has K) d))) (later-none _ _ e)
       in
       let (y, s) = first-none (unboundAt (has K) b) (width b + 1) (first (unboundAt (has K) c) (width c + 1) (unboundAt (has K) d)) r in
       let (z, w) = first-none (unboundAt (has K) c) (width c + 1) (unboundAt (has K) d) s in
