@@ -1,4 +1,5 @@
 -- Which lists are good, and what they give.
 pub mod Exactly
 pub mod Values
+pub mod Fuel
 pub mod Examples

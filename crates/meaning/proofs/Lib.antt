@@ -3,6 +3,7 @@ pub mod Binds
 pub mod Meaning
 pub mod Constants
 pub mod Left
+pub mod TopDown
 pub mod Plain
 pub mod Within
 pub mod Examples

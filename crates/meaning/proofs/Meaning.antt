@@ -10,6 +10,7 @@ use Rattle.tree.specs.Names.{Given, Binding, Running, unbound}
 use Rattle.tree.specs.Names.Given.{given, nothing}
 use Rattle.meaning.specs.Mean.{Calls, named, Side, sideOf, chosen, mean}
 use Rattle.meaning.specs.Mean.Side.{first, second, neither}
+use Rattle.meaning.specs.Real.{Cipher, real}
 use Rattle.meaning.specs.Fold.{constantOf, known, gives, orStays, sideOr, foldWhen, foldOne, foldTwo, foldThree, foldFour, fold}
 use Rattle.meaning.proofs.Binds.{known-given, gives-given, constant-is}
 
@@ -116,3 +117,7 @@ module _ (C : Calls) (K : Binding) (E : Running) (t : Tree) where
   -- with both lists
   pub fold-mean-both : mean C K E (fold C K t) ≡ mean C K E t
   fold-mean-both = fold-mean-less C K K E (λ n e. e) t
+
+-- the same for the calls of section 5, whatever the cipher calls mean
+pub real-fold-mean : (cipher : Cipher) (K : Binding) (E : Running) (t : Tree) → mean (real cipher) unbound E (fold (real cipher) K t) ≡ mean (real cipher) K E t
+real-fold-mean cipher = fold-mean (real cipher)

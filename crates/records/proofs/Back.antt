@@ -120,6 +120,7 @@ pub record Fine (inner : Bool) (d : ℕ) (t : Tree) : Type 0 where
 -- it stands first in the list, and takes u bytes
 pub record Stands (inner : Bool) (d : ℕ) (s : List ℕ) (t : Tree) (u : ℕ) : Type 0 where
   pub same : s ≡ encode t ++ drop u s
+  pub used : length (encode t) ≡ u
   pub fine : Fine inner d t
 
 abbrev Sub : Bool → ℕ → (List ℕ → Item) → Type 0
@@ -413,7 +414,12 @@ module _ (inner : Bool) (d k : ℕ) (p : List ℕ) (t : Tree) (n : ℕ) where
   shape-back sub ih hp noShape s e = absurd (no-item e)
 
 stands : (inner : Bool) (d k : ℕ) (p s : List ℕ) (t : Tree) (n : ℕ) → s ≡ recordOf k p ++ drop (4 + length p) s → Made inner d k p t n → Stands inner d s t n
-stands inner d k p s t n e M = record { same = e ∙ ap₂ (λ (l : List ℕ) (m : ℕ). l ++ drop m s) (M .is) (M .takes); fine = M .fine }
+stands inner d k p s t n e M =
+    record {
+      same = e ∙ ap₂ (λ (l : List ℕ) (m : ℕ). l ++ drop m s) (M .is) (M .takes);
+      used = ap length (sym (M .is)) ∙ length-record k p ∙ M .takes;
+      fine = M .fine;
+    }
 
 -- what is decoded stands there, within the bounds
 pub decode-back : (inner : Bool) (d : ℕ) → Sub inner d (decode inner d)

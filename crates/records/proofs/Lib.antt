@@ -3,4 +3,5 @@ pub mod Shapes
 pub mod There
 pub mod Back
 pub mod Bytes
+pub mod Sizes
 pub mod Examples
