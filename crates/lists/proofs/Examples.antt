@@ -1,12 +1,9 @@
 -- Worked lists, good and bad (document 01, section 6).
 use mathlib.Core.Path.{_≡_, refl}
-use mathlib.Core.Bool.{Bool, true, false}
 use mathlib.Core.List.{List, [], _∷_, _++_}
-use Prim.Native.Nat.{ℕ, zero, suc, _+_}
-use lib.ListN.{length, replicate}
+use Prim.Native.Nat.{ℕ}
+use lib.ListN.{replicate}
 use Rattle.common.specs.Choice.{pick}
-use Rattle.common.specs.Places.{tab}
-use Rattle.tree.specs.Names.{Given}
 use Rattle.tree.specs.Names.Given.{given, nothing}
 use Rattle.records.specs.Record.{recordOf, frontOf}
 use Rattle.lists.specs.Entries.{entry, between, preparing, running, among, withFirst, thenEntry, walk, listOf}

@@ -6,14 +6,14 @@ use Prim.Native.Nat.{ℕ, zero, suc, _+_, _-_, _≤_}
 use native.Mathlib.Omega.{arith}
 use lib.Dec.{eqb}
 use lib.ListN.{length, drop, length-drop}
-use borrow.Author.Tests.{eq-eqb, eqb-false}
+use borrow.Author.Tests.{eq-eqb}
 use Rattle.common.specs.Choice.{pick}
 use Rattle.common.specs.Answer.{Value}
 use Rattle.records.specs.Record.{Front, frontOf}
 use Rattle.records.specs.Record.Front.{front, cut}
 use Rattle.records.proofs.Shapes.{pick-true}
-use Rattle.lists.specs.Entries.{entry, Listed, withFirst, thenEntry, walk, listOf}
-use Rattle.lists.specs.Entries.Listed.{listed, badList}
+use Rattle.lists.specs.Entries.{entry, Listed, withFirst, thenEntry, walk}
+use Rattle.lists.specs.Entries.Listed.{listed}
 
 module _ (taken : ℕ → Bool) where
   entry-same : (met : List ℕ) (m : Front) (f g : ℕ → Value → Listed) → ((k : ℕ) (v : Value) → f k v ≡ g k v) → thenEntry taken met m f ≡ thenEntry taken met m g

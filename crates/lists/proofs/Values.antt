@@ -1,20 +1,20 @@
 -- What a good list gives are values (document 01, section 5).
-use mathlib.Core.Path.{_≡_, refl, ap, sym, _∙_, subst}
+use mathlib.Core.Path.{_≡_, subst}
 use mathlib.Core.Bool.{Bool, true, false}
-use mathlib.Core.List.{List, [], _∷_, _++_}
-use Prim.Native.Nat.{ℕ, suc, _+_}
+use mathlib.Core.List.{List, [], _∷_}
+use Prim.Native.Nat.{ℕ, suc}
 use native.Mathlib.Omega.{arith}
 use lib.Dec.{eqb}
 use Rattle.common.specs.Choice.{pick}
 use Rattle.common.specs.Answer.{Value}
 use Rattle.tree.specs.Bounds.{Bytes}
-use Rattle.tree.specs.Names.{Given, Binding, Running}
+use Rattle.tree.specs.Names.{Given}
 use Rattle.tree.specs.Names.Given.{given, nothing}
 use Rattle.tree.specs.Values.{IsValue, BindingValued, RunningValued}
 use Rattle.tree.proofs.Bytes.{bytes-left, bytes-right}
 use Rattle.records.specs.Record.{recordOf}
-use Rattle.lists.specs.Entries.{Entry, Listed, listOf}
-use Rattle.lists.specs.Entries.Listed.{listed, badList}
+use Rattle.lists.specs.Entries.{Entry, listOf}
+use Rattle.lists.specs.Entries.Listed.{listed}
 use Rattle.lists.specs.Given.{valueOf, bindingOf, runningOf}
 use Rattle.lists.specs.Good.{spellList, GoodList}
 use Rattle.lists.proofs.Exactly.{list-exactly}

@@ -1,12 +1,12 @@
 -- A list as kinds and values, or none (document 01, section 6; 27, bad list).
 use mathlib.Core.Bool.{Bool, true, false}
-use mathlib.Core.List.{List, [], _∷_, _++_}
+use mathlib.Core.List.{List, [], _∷_}
 use Prim.Native.Nat.{ℕ, zero, suc, _+_}
 use lib.Dec.{eqb, leb}
 use lib.ListN.{length, drop}
 use Rattle.common.specs.Choice.{pick}
 use Rattle.common.specs.Answer.{Value}
-use Rattle.records.specs.Record.{recordOf, Front, frontOf}
+use Rattle.records.specs.Record.{Front, frontOf}
 use Rattle.records.specs.Record.Front.{front, cut}
 
 pub record Entry : Type 0 where

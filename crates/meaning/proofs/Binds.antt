@@ -1,6 +1,6 @@
 -- One inversion law for each way of handing a result on.
-use mathlib.Core.Path.{_≡_, refl, ap, sym, _∙_}
-use mathlib.Core.List.{List, [], _∷_}
+use mathlib.Core.Path.{_≡_, refl, ap, sym}
+use mathlib.Core.List.{[], _∷_}
 use mathlib.Core.Bool.{Bool, true, false}
 use Prim.Native.Nat.{ℕ}
 use native.Mathlib.Omega.{arith}
@@ -13,9 +13,9 @@ use Rattle.tree.specs.Tree.{Tree}
 use Rattle.tree.specs.Tree.Tree.{literal, bound, row, run, one, two, three, four, when}
 use Rattle.tree.specs.Names.{Given}
 use Rattle.tree.specs.Names.Given.{given, nothing}
-use Rattle.meaning.specs.Mean.{named, Side, sideOf, chosen}
+use Rattle.meaning.specs.Mean.{named, sideOf}
 use Rattle.meaning.specs.Mean.Side.{first, second, neither}
-use Rattle.meaning.specs.Fold.{constantOf, known, gives, orStays}
+use Rattle.meaning.specs.Fold.{constantOf, known, gives}
 
 pub no-value : {n : ℕ} {v : Value} → refused n ≡ value v → ⊥
 no-value e = let z : _≡_ {A = ℕ} 0 1 = cc in omega arith

@@ -1,14 +1,12 @@
 -- What becomes a constant, and what never does (document 01, section 5).
 use mathlib.Core.Path.{_≡_, refl, ap, sym, _∙_}
-use mathlib.Core.List.{List, [], _∷_}
 use mathlib.Core.Logic.{_↔_}
 use Prim.Native.Nat.{ℕ}
 use Rattle.common.specs.Answer.{Value, Answer, then}
-use Rattle.common.specs.Answer.Answer.{value, refused}
+use Rattle.common.specs.Answer.Answer.{value}
 use Rattle.tree.specs.Tree.{Tree}
 use Rattle.tree.specs.Tree.Tree.{literal, bound, row, run, one, two, three, four, when}
-use Rattle.tree.specs.Names.{Given, Binding, Running, unbound, idle, NoBound, AllBound}
-use Rattle.tree.specs.Names.Given.{given, nothing}
+use Rattle.tree.specs.Names.{Binding, Running, unbound, idle}
 use Rattle.meaning.specs.Mean.{Calls, named, Side, sideOf, chosen, mean}
 use Rattle.meaning.specs.Mean.Side.{first, second, neither}
 use Rattle.meaning.specs.Fold.{constantOf, known, gives, orStays, sideOr, foldWhen, foldOne, foldTwo, foldThree, foldFour, fold}

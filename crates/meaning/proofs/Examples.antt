@@ -1,19 +1,19 @@
 -- Worked examples, whatever the cipher calls mean (document 01, sections 5, 8 and 10; recipes in their text are beside each).
 use mathlib.Core.Path.{_≡_, refl}
-use mathlib.Core.List.{List, [], _∷_, _++_}
-use Prim.Native.Nat.{ℕ, zero, suc}
-use lib.ListN.{length, replicate}
+use mathlib.Core.List.{[], _∷_, _++_}
+use Prim.Native.Nat.{zero, suc}
+use lib.ListN.{replicate}
 use Rattle.common.specs.Choice.{pick}
 use Rattle.common.specs.Places.{tab}
-use Rattle.common.specs.Answer.{Value, Answer, then}
+use Rattle.common.specs.Answer.{then}
 use Rattle.common.specs.Answer.Answer.{value, refused}
 use Rattle.tree.specs.Tree.{Tree}
-use Rattle.tree.specs.Tree.Tree.{literal, bound, row, run, one, two, three, four, when}
-use Rattle.tree.specs.Names.{Given, Binding, Running, unbound, idle}
+use Rattle.tree.specs.Tree.Tree.{literal, bound, row, run, two, three, when}
+use Rattle.tree.specs.Names.{Binding, Running, unbound, idle}
 use Rattle.tree.specs.Names.Given.{given, nothing}
-use Rattle.meaning.specs.Mean.{Calls, named, Side, sideOf, chosen, mean}
+use Rattle.meaning.specs.Mean.{Calls, named, sideOf, chosen, mean}
 use Rattle.meaning.specs.Real.{cat, xorByte, xorBytes, xor, same, eq, head, Cipher, ciphered, realTwo, real}
-use Rattle.meaning.specs.Fold.{constantOf, known, gives, orStays, sideOr, foldWhen, foldOne, foldTwo, foldThree, foldFour, fold}
+use Rattle.meaning.specs.Fold.{constantOf, known, gives, orStays, sideOr, foldWhen, foldTwo, foldThree, fold}
 
 -- `#0` is 42
 abbrev only42 : Binding
@@ -136,3 +136,10 @@ module _ (cipher : Cipher) where
       × (fold C only42 (run 0) ≡ run 0)
   unfolding fold foldTwo foldWhen orStays known gives sideOr constantOf real realTwo cat xor xorBytes eq same head pick tab sideOf
   stays = (refl, refl, refl, refl, refl, refl, refl, refl, refl, refl, refl)
+
+  -- an IV that is drawn for each run is never folded, nor a row: ctr.1(#0,@0,$0), ctr.1(#0,'',$0)
+  pub drawn :
+      (fold C only42 (three 0x0121 (bound 0) (run 0) (row 0)) ≡ three 0x0121 (literal (0x42 ∷ [])) (run 0) (row 0))
+      × (fold C only42 (three 0x0121 (bound 0) (literal []) (row 0)) ≡ three 0x0121 (literal (0x42 ∷ [])) (literal []) (row 0))
+  unfolding fold foldThree orStays known constantOf
+  drawn = (refl, refl)

@@ -1,14 +1,13 @@
 -- What is left after folding (document 01, sections 5 and 9): no `#`, nothing that could be folded, and every call that stays in its place.
-use mathlib.Core.Path.{_≡_, refl, ap, sym, _∙_, subst}
-use mathlib.Core.List.{List, [], _∷_}
+use mathlib.Core.Path.{_≡_, refl, ap, sym, _∙_}
+use mathlib.Core.List.{[], _∷_}
 use Prim.Native.Nat.{ℕ}
 use native.Mathlib.Omega.{arith}
 use Rattle.common.specs.Choice.{pick}
-use Rattle.common.specs.Answer.{Value, Answer, then}
-use Rattle.common.specs.Answer.Answer.{value, refused}
+use Rattle.common.specs.Answer.{Value}
 use Rattle.tree.specs.Tree.{Tree}
 use Rattle.tree.specs.Tree.Tree.{literal, bound, row, run, one, two, three, four, when}
-use Rattle.tree.specs.Names.{Given, Binding, Running, idle, NoBound, AllBound}
+use Rattle.tree.specs.Names.{Given, Binding, idle, NoBound, AllBound}
 use Rattle.tree.specs.Names.Given.{given, nothing}
 use Rattle.meaning.specs.Mean.{Calls, Side, sideOf, mean}
 use Rattle.meaning.specs.Mean.Side.{first, second, neither}

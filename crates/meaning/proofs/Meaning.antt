@@ -1,9 +1,8 @@
 -- Folding changes no meaning (document 01, section 5; the first half of what it owes).
 use mathlib.Core.Path.{_≡_, refl, ap, sym, _∙_}
-use mathlib.Core.List.{List, [], _∷_}
 use Prim.Native.Nat.{ℕ}
 use Rattle.common.specs.Answer.{Value, Answer, then}
-use Rattle.common.specs.Answer.Answer.{value, refused}
+use Rattle.common.specs.Answer.Answer.{value}
 use Rattle.tree.specs.Tree.{Tree}
 use Rattle.tree.specs.Tree.Tree.{literal, bound, row, run, one, two, three, four, when}
 use Rattle.tree.specs.Names.{Given, Binding, Running, unbound}

@@ -1,22 +1,20 @@
 -- The plain calls: of values they make values, and `eq` tells whether two values are equal.
-use mathlib.Core.Path.{_≡_, refl, ap, ap₂, sym, _∙_, subst}
+use mathlib.Core.Path.{_≡_, refl, ap₂, subst}
 use mathlib.Core.Bool.{Bool, true, false}
 use mathlib.Core.List.{List, [], _∷_, _++_}
 use mathlib.Core.Logic.{_↔_}
-use Prim.Native.Nat.{ℕ, zero, suc, _+_, _^_, _≤_, _<_}
+use Prim.Native.Nat.{ℕ, zero, suc, _+_, _<_}
 use native.Mathlib.Omega.{arith}
-use lib.Bits.{bitXor, xor-lt}
+use lib.Bits.{xor-lt}
 use lib.Dec.{eqb, leb}
-use lib.ListN.{length, getD, take, drop, length-append, length-take}
+use lib.ListN.{length, take, length-append, length-take}
 use borrow.Author.Tests.{leb-true, eqb-true, eq-eqb}
 use Rattle.common.specs.Choice.{pick}
-use Rattle.common.specs.Places.{tab}
-use Rattle.common.proofs.Places.{getD-tab, length-tab}
+use Rattle.common.proofs.Places.{length-tab}
 use Rattle.common.specs.Answer.{Value, Answer}
 use Rattle.common.specs.Answer.Answer.{value, refused}
 use Rattle.tree.specs.Bounds.{Bytes}
 use Rattle.tree.proofs.Bytes.{bytes-append, bytes-take, bytes-tab}
-use Rattle.meaning.specs.Mean.{Calls}
 use Rattle.meaning.specs.Real.{cat, xorByte, xorBytes, xor, same, eq, head, Cipher, ciphered, realTwo, real}
 use Rattle.tree.specs.Values.{IsValue}
 use Rattle.meaning.specs.Values.{Valued, CallsValued, AllValues, CipherValued}

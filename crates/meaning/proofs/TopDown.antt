@@ -1,14 +1,13 @@
 -- Folding read from the top: what has a value is that constant; else a call stays with its folded arguments, in their places.
-use mathlib.Core.Path.{_≡_, refl, ap, sym, _∙_}
-use mathlib.Core.List.{List, [], _∷_}
+use mathlib.Core.Path.{_≡_, refl, ap, _∙_}
 use Prim.Native.Nat.{ℕ}
-use Rattle.common.specs.Answer.{Value, Answer}
-use Rattle.common.specs.Answer.Answer.{value, refused}
+use Rattle.common.specs.Answer.{Value}
+use Rattle.common.specs.Answer.Answer.{value}
 use Rattle.tree.specs.Tree.{Tree}
-use Rattle.tree.specs.Tree.Tree.{literal, bound, row, run, one, two, three, four, when}
+use Rattle.tree.specs.Tree.Tree.{one, two, three, four, when}
 use Rattle.tree.specs.Names.{Given, Binding, idle}
 use Rattle.tree.specs.Names.Given.{given, nothing}
-use Rattle.meaning.specs.Mean.{Calls, Side, sideOf, mean}
+use Rattle.meaning.specs.Mean.{Calls, sideOf, mean}
 use Rattle.meaning.specs.Mean.Side.{first, second, neither}
 use Rattle.meaning.specs.Fold.{constantOf, orStays, sideOr, foldWhen, foldOne, foldTwo, foldThree, foldFour, fold}
 use Rattle.meaning.specs.Folded.{NoValue}

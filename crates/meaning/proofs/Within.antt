@@ -1,15 +1,13 @@
 -- Folding keeps the bounds of document 01, section 5.
-use mathlib.Core.Path.{_≡_, refl, ap, sym, _∙_, subst}
-use mathlib.Core.List.{List, [], _∷_}
-use Prim.Native.Nat.{ℕ, suc, _+_, _≤_, max}
+use mathlib.Core.Path.{_≡_, refl, subst}
+use Prim.Native.Nat.{ℕ, _≤_}
 use native.Mathlib.Omega.{arith}
 use native.Mathlib.Nat.{le-trans}
-use lib.ListN.{length}
 use Rattle.common.specs.Answer.{Value, Answer, then}
 use Rattle.common.specs.Answer.Answer.{value, refused}
 use Rattle.tree.specs.Tree.{Tree}
 use Rattle.tree.specs.Tree.Tree.{literal, bound, row, run, one, two, three, four, when}
-use Rattle.tree.specs.Bounds.{depth, nodes, argumentsOf, whenKind, Bytes, Proper, Small, Within}
+use Rattle.tree.specs.Bounds.{depth, nodes, Proper, Small, Within}
 use Rattle.tree.specs.Names.{Given, Binding, Running, unbound, idle}
 use Rattle.tree.specs.Names.Given.{given, nothing}
 use Rattle.meaning.specs.Mean.{Calls, named, Side, sideOf, chosen, mean}

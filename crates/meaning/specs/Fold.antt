@@ -1,5 +1,4 @@
 -- Folding, bottom up (document 01, section 5).
-use mathlib.Core.List.{List, [], _∷_}
 use Prim.Native.Nat.{ℕ}
 use Rattle.common.specs.Answer.{Value, Answer}
 use Rattle.common.specs.Answer.Answer.{value, refused}

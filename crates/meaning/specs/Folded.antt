@@ -1,13 +1,13 @@
 -- What folding owes (document 01, sections 5 and 9), in words of its own.
 use mathlib.Core.Path.{_≡_}
-use mathlib.Core.List.{List, [], _∷_}
+use mathlib.Core.List.{[], _∷_}
 use Prim.Native.Nat.{ℕ}
 use Rattle.common.specs.Answer.{Value, Answer}
-use Rattle.common.specs.Answer.Answer.{value, refused}
+use Rattle.common.specs.Answer.Answer.{value}
 use Rattle.tree.specs.Tree.{Tree}
 use Rattle.tree.specs.Tree.Tree.{literal, bound, row, run, one, two, three, four, when}
-use Rattle.tree.specs.Names.{Given, Binding, Running, idle}
-use Rattle.tree.specs.Names.Given.{given, nothing}
+use Rattle.tree.specs.Names.{Binding, Running, idle}
+use Rattle.tree.specs.Names.Given.{nothing}
 use Rattle.meaning.specs.Mean.{Calls, mean}
 
 -- an answer that is no value

@@ -1,5 +1,5 @@
 -- What a recipe means (document 01, section 5), whatever its calls mean.
-use mathlib.Core.List.{List, [], _∷_}
+use mathlib.Core.List.{[], _∷_}
 use Prim.Native.Nat.{ℕ}
 use lib.Dec.{eqb}
 use Rattle.common.specs.Choice.{pick}

@@ -1,12 +1,12 @@
 -- Preparing and running with every definition open, for worked examples.
-use mathlib.Core.List.{List, [], _∷_, _++_}
+use mathlib.Core.List.{List}
 use Prim.Native.Nat.{ℕ}
 use Rattle.common.specs.Choice.{pick}
 use Rattle.common.specs.Places.{tab}
 use Rattle.common.specs.Answer.{Answer, then}
 use Rattle.tree.specs.Calls.{calls, plain, cipher}
 use Rattle.tree.specs.Bounds.{ofRow, argumentsIn, argumentsOf, nodes}
-use Rattle.tree.specs.Names.{unbound, idle}
+use Rattle.tree.specs.Names.{unbound}
 use Rattle.meaning.specs.Mean.{named, sideOf, chosen, mean}
 use Rattle.meaning.specs.Real.{cat, xorByte, xorBytes, xor, same, eq, head, Cipher, ciphered, realTwo, real}
 use Rattle.meaning.specs.Fold.{constantOf, known, gives, orStays, sideOr, foldWhen, foldOne, foldTwo, foldThree, foldFour, fold}

@@ -1,34 +1,32 @@
 -- A run of what was prepared means the text: for every text, bound list, image that preparing wrote, good run list, output room and work room.
 use mathlib.Core.Path.{_≡_, refl, ap, ap₂, sym, _∙_, subst}
 use mathlib.Core.Bool.{Bool, true, false}
-use mathlib.Core.List.{List, [], _∷_, _++_}
-use Prim.Native.Nat.{ℕ, _≤_, _<_}
+use mathlib.Core.List.{List, _++_}
+use Prim.Native.Nat.{ℕ, _≤_}
 use native.Mathlib.Omega.{arith}
 use lib.Dec.{leb, ltb}
 use lib.ListN.{length, take, drop}
 use lib.Seq.{take-append-seam}
-use borrow.Author.Tests.{le-ltb, ltb-false, leb-true}
+use borrow.Author.Tests.{le-ltb, leb-true}
 use Rattle.common.specs.Choice.{pick}
 use Rattle.common.specs.Answer.{Answer, Delivered, refusal, deliver}
-use Rattle.common.specs.Answer.Answer.{value, refused}
 use Rattle.tree.specs.Tree.{Tree}
-use Rattle.tree.specs.Bounds.{Bytes, Within}
-use Rattle.tree.specs.Names.{Binding, unbound, NoBound, AllBound}
+use Rattle.tree.specs.Bounds.{Bytes}
+use Rattle.tree.specs.Names.{Binding, AllBound}
 use Rattle.tree.specs.Reading.{Read}
 use Rattle.tree.specs.Reading.Read.{got, wrong}
 use Rattle.meaning.specs.Mean.{mean}
 use Rattle.meaning.specs.Real.{Cipher, real}
 use Rattle.meaning.specs.Fold.{fold}
-use Rattle.meaning.specs.Folded.{Folded}
 use Rattle.meaning.specs.Values.{CipherValued}
 use Rattle.meaning.proofs.Meaning.{fold-mean}
 use Rattle.meaning.proofs.Left.{no-bound-left, all-folded}
 use Rattle.meaning.proofs.Plain.{real-valued}
 use Rattle.meaning.proofs.Within.{fold-within}
 use Rattle.records.specs.Encode.{encode}
-use Rattle.records.specs.Decode.{Image, imageWith, imageOf}
-use Rattle.records.specs.Decode.Image.{image, noImage}
-use Rattle.records.proofs.Shapes.{pick-all, pick-true, pick-false}
+use Rattle.records.specs.Decode.{imageWith, imageOf}
+use Rattle.records.specs.Decode.Image.{image}
+use Rattle.records.proofs.Shapes.{pick-all, pick-false}
 use Rattle.records.proofs.There.{image-encode}
 use Rattle.lists.specs.Entries.{Entry, Listed, preparing, running, listOf}
 use Rattle.lists.specs.Entries.Listed.{listed, badList}

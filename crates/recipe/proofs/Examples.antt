@@ -1,21 +1,18 @@
 -- Preparing and running at each number and place (document 01, sections 5 to 7 and 10), whatever the cipher calls mean.
-use mathlib.Core.Path.{_≡_, refl, ap}
-use mathlib.Core.Bool.{Bool, true, false}
+use mathlib.Core.Path.{_≡_, refl}
 use mathlib.Core.List.{List, [], _∷_, _++_}
 use Prim.Native.Nat.{ℕ, zero, suc}
 use Prim.Native.String.{String}
 use lib.ListN.{length, replicate}
 use Rattle.common.specs.Choice.{pick}
-use Rattle.common.specs.Answer.{Answer, deliver, refusal}
+use Rattle.common.specs.Answer.{deliver, refusal}
 use Rattle.common.specs.Answer.Answer.{value, refused}
-use Rattle.tree.specs.Tree.{Tree}
-use Rattle.tree.specs.Tree.Tree.{literal, bound, row, run, one, two, three, four, when}
-use Rattle.tree.specs.Reading.Read.{got, wrong}
+use Rattle.tree.specs.Tree.Tree.{when}
 use Rattle.meaning.specs.Real.{Cipher}
 use Rattle.records.specs.Record.{recordOf}
 use Rattle.texts.specs.Reading.{readText}
 use Rattle.texts.proofs.Examples.{text}
-use Rattle.recipe.specs.Prepare.{Prepared, answerOf, placeOf, sized, afterScan, afterList, afterRead, preparedOf}
+use Rattle.recipe.specs.Prepare.{Prepared, afterRead, preparedOf}
 use Rattle.recipe.specs.Prepare.Prepared.{made, stopped}
 use Rattle.recipe.specs.Run.{ranOf}
 use Rattle.recipe.proofs.Computing.{prepares, runs}
@@ -87,6 +84,11 @@ module _ (cipher : Cipher) where
       × (ranOf cipher (0x0F ∷ 0x00 ∷ 0x14 ∷ 0x00 ∷ 0x01 ∷ 0x00 ∷ 0x02 ∷ 0x00 ∷ 0x00 ∷ 0x01 ∷ 0x00 ∷ 0x03 ∷ 0x00 ∷ 0x01 ∷ 0x01 ∷ 0x00 ∷ 0x03 ∷ 0x00 ∷ 0x00 ∷ []) (row01 ++ run43) ≡ value (0x43 ∷ []))
   unfolding runs
   ran = (refl, refl, refl, refl, refl, refl, refl)
+
+  -- an image need not be folded
+  pub unfolded : ranOf cipher (0x0A ∷ 0x00 ∷ 0x10 ∷ 0x00 ∷ 0x01 ∷ 0x00 ∷ 0x01 ∷ 0x00 ∷ 0x41 ∷ 0x01 ∷ 0x00 ∷ 0x01 ∷ 0x00 ∷ 0x42 ∷ []) [] ≡ value (0x41 ∷ 0x42 ∷ [])
+  unfolding runs
+  unfolded = refl
 
   -- 9 where the output is shorter than the answer, which changes nothing; else the bytes, later bytes unchanged
   pub delivered :

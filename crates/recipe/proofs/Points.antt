@@ -1,24 +1,21 @@
 -- The points P8 to P11 (document 01, section 8), whatever the cipher calls mean.
-use mathlib.Core.Path.{_≡_, refl, ap, _∙_}
-use mathlib.Core.List.{List, [], _∷_, _++_}
+use mathlib.Core.Path.{_≡_, refl, ap}
+use mathlib.Core.List.{List, [], _∷_}
 use Prim.Native.Nat.{ℕ}
 use Rattle.common.specs.Choice.{pick}
-use Rattle.common.specs.Answer.{Answer, then}
-use Rattle.common.specs.Answer.Answer.{value, refused}
+use Rattle.common.specs.Answer.{then}
+use Rattle.common.specs.Answer.Answer.{refused}
 use Rattle.tree.specs.Tree.{Tree}
-use Rattle.tree.specs.Tree.Tree.{literal, bound, row, run, one, two, three, four, when}
+use Rattle.tree.specs.Tree.Tree.{literal, two, when}
 use Rattle.tree.specs.Names.{Binding, Running}
 use Rattle.meaning.specs.Mean.{mean}
 use Rattle.meaning.specs.Real.{Cipher, xor, realTwo, real}
-use Rattle.records.specs.Decode.{imageOf}
-use Rattle.records.specs.Decode.Image.{image, noImage}
 use Rattle.lists.specs.Entries.{Entry, running, listOf}
-use Rattle.lists.specs.Entries.Listed.{listed, badList}
-use Rattle.lists.specs.Given.{runningOf}
+use Rattle.lists.specs.Entries.Listed.{listed}
 use Rattle.texts.proofs.Examples.{text}
-use Rattle.recipe.specs.Prepare.{Prepared, preparedOf}
-use Rattle.recipe.specs.Prepare.Prepared.{made, stopped}
-use Rattle.recipe.specs.Run.{meantWith, afterImage, ranOf}
+use Rattle.recipe.specs.Prepare.{preparedOf}
+use Rattle.recipe.specs.Prepare.Prepared.{made}
+use Rattle.recipe.specs.Run.{meantWith, ranOf}
 use Rattle.recipe.proofs.Computing.{prepares, runs}
 
 -- the list that gives `#0` = 42

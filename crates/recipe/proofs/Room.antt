@@ -1,18 +1,17 @@
 -- The work room afterwards (document 01, section 7).
-use mathlib.Core.Path.{_≡_, refl, ap, sym, _∙_}
-use mathlib.Core.List.{List, [], _∷_, _++_}
-use Prim.Native.Nat.{ℕ, zero, suc, _+_, _-_, _≤_, _<_}
+use mathlib.Core.Path.{_≡_, ap, _∙_}
+use mathlib.Core.List.{List}
+use Prim.Native.Nat.{ℕ, _≤_, _<_}
 use native.Mathlib.Omega.{arith}
-use lib.ListN.{length, take, drop, getD, replicate, length-append, length-drop, length-replicate, getD-replicate, List·getD-append}
+use lib.ListN.{length, drop, getD, replicate, length-append, length-drop, length-replicate, getD-replicate, List·getD-append}
 use lib.Seq.{drop-at}
 use borrow.Author.Tests.{lt-ltb, le-ltb}
-use Rattle.common.specs.Choice.{pick}
 use Rattle.common.specs.Answer.{Delivered, refusal}
 use Rattle.records.proofs.Shapes.{pick-true, pick-false}
 use Rattle.meaning.specs.Real.{Cipher}
 use Rattle.recipe.specs.Outcome.{Outcome, zeroed, cleared, outcome, inRoom}
-use Rattle.recipe.specs.Prepare.{answerOf, placeOf, preparedOf, prepareOf}
-use Rattle.recipe.specs.Run.{ranOf, runOf}
+use Rattle.recipe.specs.Prepare.{prepareOf}
+use Rattle.recipe.specs.Run.{runOf}
 
 -- a room keeps its length
 pub zeroed-length : (n : ℕ) (w : List ℕ) → n ≤ length w → length (zeroed n w) ≡ length w

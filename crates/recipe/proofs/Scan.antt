@@ -1,7 +1,5 @@
 -- The scan for an unbound `#` finds none exactly if all are bound.
 use mathlib.Core.Path.{_≡_, refl, ap, sym, _∙_}
-use mathlib.Core.Bool.{Bool, true, false}
-use mathlib.Core.List.{List, [], _∷_}
 use mathlib.Core.Logic.{_↔_}
 use Prim.Native.Nat.{ℕ, _+_}
 use native.Mathlib.Omega.{arith}
@@ -9,10 +7,9 @@ use Rattle.common.specs.Choice.{pick}
 use Rattle.common.specs.Answer.{Value}
 use Rattle.tree.specs.Tree.{Tree}
 use Rattle.tree.specs.Tree.Tree.{literal, bound, row, run, one, two, three, four, when}
-use Rattle.tree.specs.Bounds.{whenKind}
 use Rattle.tree.specs.Names.{Given, Binding, AllBound}
 use Rattle.tree.specs.Names.Given.{given, nothing}
-use Rattle.texts.specs.Spelling.{spell, width, headWidth}
+use Rattle.texts.specs.Spelling.{spell, width}
 use Rattle.texts.specs.Unbound.{Place, later, first, unboundAt, unboundIn}
 use Rattle.texts.specs.Unbound.Place.{at, nowhere}
 use Rattle.texts.proofs.Unbound.{unbound-scan}

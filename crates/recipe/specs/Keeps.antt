@@ -1,20 +1,20 @@
 -- What joins preparing and running: a run of what was prepared means the text.
 use mathlib.Core.Path.{_≡_}
-use mathlib.Core.List.{List, [], _∷_}
+use mathlib.Core.List.{List}
 use Prim.Native.Nat.{ℕ, _≤_}
-use lib.ListN.{length, take}
-use Rattle.common.specs.Answer.{Answer, deliver}
+use lib.ListN.{length}
+use Rattle.common.specs.Answer.{deliver}
 use Rattle.tree.specs.Tree.{Tree}
 use Rattle.tree.specs.Names.{NoBound}
-use Rattle.tree.specs.Reading.Read.{got, wrong}
+use Rattle.tree.specs.Reading.Read.{got}
 use Rattle.texts.specs.Reading.{readText}
 use Rattle.meaning.specs.Mean.{mean}
 use Rattle.meaning.specs.Real.{Cipher, real}
 use Rattle.meaning.specs.Folded.{Folded}
 use Rattle.records.specs.Decode.{imageOf}
-use Rattle.records.specs.Decode.Image.{image, noImage}
+use Rattle.records.specs.Decode.Image.{image}
 use Rattle.lists.specs.Entries.{Entry, preparing, running, listOf}
-use Rattle.lists.specs.Entries.Listed.{listed, badList}
+use Rattle.lists.specs.Entries.Listed.{listed}
 use Rattle.lists.specs.Given.{bindingOf, runningOf}
 use Rattle.recipe.specs.Outcome.{outcome, cleared}
 use Rattle.recipe.specs.Run.{runOf}

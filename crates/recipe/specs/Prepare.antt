@@ -1,6 +1,6 @@
 -- Preparing (document 01, sections 5 to 7): 14; 21; reading (20, 22, 23, 6); 27; 25; 26; 9.
 use mathlib.Core.Bool.{Bool, true, false}
-use mathlib.Core.List.{List, [], _∷_}
+use mathlib.Core.List.{List}
 use Prim.Native.Nat.{ℕ}
 use lib.Dec.{leb}
 use lib.ListN.{length}

@@ -1,8 +1,8 @@
 -- Running (document 01, sections 5 to 7): 14; 28; 27; the meaning; 9.
-use mathlib.Core.List.{List, [], _∷_}
+use mathlib.Core.List.{List}
 use Prim.Native.Nat.{ℕ}
 use Rattle.common.specs.Answer.{Answer, deliver}
-use Rattle.common.specs.Answer.Answer.{value, refused}
+use Rattle.common.specs.Answer.Answer.{refused}
 use Rattle.tree.specs.Tree.{Tree}
 use Rattle.tree.specs.Names.{unbound}
 use Rattle.meaning.specs.Mean.{mean}

@@ -1,13 +1,13 @@
 -- What is decoded is what stands there (document 01, section 6).
 use mathlib.Core.Path.{_≡_, refl, ap, ap₂, sym, _∙_, subst}
 use mathlib.Core.Bool.{Bool, true, false}
-use mathlib.Core.List.{List, [], _∷_, _++_, append-assoc, append-nil}
+use mathlib.Core.List.{List, [], _∷_, _++_, append-nil}
 use mathlib.Core.Logic.{_↔_}
-use Prim.Native.Nat.{ℕ, zero, suc, _+_, _*_, _-_, _/_, _%_, _≤_, _<_, max}
+use Prim.Native.Nat.{ℕ, zero, suc, _+_, _*_, _-_, _/_, _%_, _≤_, _<_}
 use native.Mathlib.Omega.{arith}
 use lib.Dec.{eqb, leb, ltb}
-use lib.ListN.{length, getD, take, drop, length-append, length-drop, take-append-drop}
-use lib.Seq.{length-take-le, drop-drop, drop-length, drop-at}
+use lib.ListN.{length, getD, take, drop, take-append-drop}
+use lib.Seq.{length-take-le, drop-drop, drop-length}
 use borrow.Author.Tests.{leb-true, ltb-true, ltb-false, eqb-true}
 use Rattle.common.specs.Choice.{pick}
 use Rattle.tree.specs.Tree.{Tree}
@@ -18,7 +18,7 @@ use Rattle.tree.proofs.Bytes.{bytes-take, bytes-drop}
 use Rattle.records.specs.Record.{recordOf, word, Front, frontOf}
 use Rattle.records.specs.Record.Front.{front, cut}
 use Rattle.records.specs.Encode.{constantKind, rowKind, runKind, boundKind, encode}
-use Rattle.records.specs.Decode.{Shape, callShape, shapeOf, Item, thenItem, thenFront, filled, constantIn, digitIn, oneIn, twoIn, threeIn, fourIn, byShape, decode, Image, wholeOf, imageWith, imageOf}
+use Rattle.records.specs.Decode.{Shape, shapeOf, Item, thenItem, thenFront, filled, constantIn, digitIn, oneIn, twoIn, threeIn, fourIn, byShape, decode, Image, wholeOf, imageWith}
 use Rattle.records.specs.Decode.Shape.{aConstant, aBound, aRow, aRun, aWhen, aOne, aTwo, aThree, aFour, noShape}
 use Rattle.records.specs.Decode.Item.{item, noItem}
 use Rattle.records.specs.Decode.Image.{image, noImage}

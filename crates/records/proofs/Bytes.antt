@@ -1,12 +1,12 @@
 -- An encoding is made of bytes.
-use mathlib.Core.Path.{_≡_, refl, ap, sym, _∙_, subst}
+use mathlib.Core.Path.{_≡_}
 use mathlib.Core.List.{List, [], _∷_, _++_}
-use Prim.Native.Nat.{ℕ, zero, suc, _+_, _*_, _/_, _%_, _≤_, _<_}
+use Prim.Native.Nat.{ℕ, zero, suc, _/_, _%_, _≤_, _<_}
 use native.Mathlib.Omega.{arith}
-use lib.ListN.{length, getD, length-append}
+use lib.ListN.{length, length-append}
 use Rattle.tree.specs.Tree.{Tree}
 use Rattle.tree.specs.Tree.Tree.{literal, bound, row, run, one, two, three, four, when}
-use Rattle.tree.specs.Bounds.{argumentsOf, whenKind, Bytes, Proper, Small}
+use Rattle.tree.specs.Bounds.{argumentsOf, whenKind, Bytes, Proper}
 use Rattle.tree.proofs.Bytes.{bytes-append}
 use Rattle.tree.proofs.Table.{call-kind}
 use Rattle.records.specs.Record.{recordOf}

@@ -1,18 +1,18 @@
 -- Worked records and both sides of each bound of an image (document 01, sections 6 and 8).
 use mathlib.Core.Path.{_≡_, refl}
-use mathlib.Core.Bool.{Bool, true, false}
+use mathlib.Core.Bool.{true}
 use mathlib.Core.List.{List, [], _∷_, _++_}
 use Prim.Native.Nat.{ℕ, zero, suc}
 use lib.ListN.{length, take, replicate}
 use Rattle.common.specs.Choice.{pick}
 use Rattle.tree.specs.Tree.{Tree}
-use Rattle.tree.specs.Tree.Tree.{literal, bound, row, run, one, two, three, four, when}
+use Rattle.tree.specs.Tree.Tree.{literal, bound, row, run, two, three, when}
 use Rattle.tree.specs.Calls.{calls, plain, cipher}
 use Rattle.tree.specs.Bounds.{ofRow, argumentsIn, argumentsOf, nodes}
 use Rattle.tree.proofs.Examples.{nest}
 use Rattle.records.specs.Record.{recordOf, frontOf}
 use Rattle.records.specs.Encode.{encode}
-use Rattle.records.specs.Decode.{callShape, shapeOf, Item, thenItem, thenFront, filled, constantIn, digitIn, oneIn, twoIn, threeIn, fourIn, byShape, decode, Image, wholeOf, imageWith, imageOf}
+use Rattle.records.specs.Decode.{callShape, shapeOf, thenItem, thenFront, filled, constantIn, digitIn, oneIn, twoIn, threeIn, fourIn, byShape, decode, wholeOf, imageWith, imageOf}
 use Rattle.records.specs.Decode.Image.{image, noImage}
 
 -- constants, names and calls; length and kind are low byte first

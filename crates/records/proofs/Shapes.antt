@@ -1,10 +1,10 @@
 -- What a shape says of its kind, and a call's kind of its shape.
-use mathlib.Core.Path.{_≡_, refl, ap, sym, _∙_, subst}
+use mathlib.Core.Path.{_≡_, refl, ap, sym, _∙_}
 use mathlib.Core.Bool.{Bool, true, false}
 use Prim.Native.Nat.{ℕ, suc, _≤_}
 use native.Mathlib.Omega.{arith}
 use lib.Dec.{eqb}
-use borrow.Author.Tests.{eqb-true, eqb-false, eq-eqb, ne-eqb}
+use borrow.Author.Tests.{eqb-true, eqb-false, ne-eqb}
 use Rattle.common.specs.Choice.{pick}
 use Rattle.tree.specs.Bounds.{argumentsOf, whenKind}
 use Rattle.tree.proofs.Table.{call-kind, when-arguments}

@@ -1,17 +1,16 @@
 -- How long encodings are, and that no two trees have the same one.
-use mathlib.Core.Path.{_≡_, refl, ap, sym, _∙_}
+use mathlib.Core.Path.{_≡_, ap, sym, _∙_}
 use mathlib.Core.Bool.{Bool, true, false}
 use mathlib.Core.List.{List, [], _∷_, _++_}
-use Prim.Native.Nat.{ℕ, suc, _+_, _*_, _≤_, max}
+use Prim.Native.Nat.{ℕ, _+_, _*_, _≤_, max}
 use native.Mathlib.Omega.{arith}
 use lib.ListN.{length, drop, length-append}
 use Rattle.tree.specs.Tree.{Tree}
 use Rattle.tree.specs.Tree.Tree.{literal, bound, row, run, one, two, three, four, when}
 use Rattle.tree.specs.Bounds.{depth, nodes, whenKind, Bytes, Proper, Small}
-use Rattle.records.specs.Record.{recordOf}
 use Rattle.records.specs.Encode.{constantKind, rowKind, runKind, boundKind, encode}
-use Rattle.records.specs.Decode.{Item, decode}
-use Rattle.records.specs.Decode.Item.{item, noItem}
+use Rattle.records.specs.Decode.{decode}
+use Rattle.records.specs.Decode.Item.{item}
 use Rattle.records.proofs.There.{length-record, decode-encode}
 use Rattle.records.proofs.Back.{decode-back}
 

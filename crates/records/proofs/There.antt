@@ -1,25 +1,24 @@
 -- What is encoded is decoded (document 01, section 6).
-use mathlib.Core.Path.{_≡_, refl, ap, ap₂, sym, _∙_, subst}
+use mathlib.Core.Path.{_≡_, refl, ap, ap₂, sym, _∙_}
 use mathlib.Core.Bool.{Bool, true, false}
-use mathlib.Core.List.{List, [], _∷_, _++_, append-assoc, append-nil}
-use Prim.Native.Nat.{ℕ, zero, suc, _+_, _*_, _-_, _/_, _%_, _≤_, _<_, max}
+use mathlib.Core.List.{List, [], _∷_, _++_, append-nil}
+use Prim.Native.Nat.{ℕ, zero, suc, _+_, _*_, _-_, _≤_, _<_}
 use native.Mathlib.Omega.{arith}
-use lib.Dec.{eqb, leb, ltb}
-use lib.ListN.{length, getD, take, drop, length-append}
-use lib.Seq.{take-append-seam, drop-append-seam, drop-append-add, drop-drop, drop-length}
+use lib.ListN.{length, take, drop, length-append}
+use lib.Seq.{take-append-seam, drop-append-seam, drop-append-add}
 use borrow.Author.Tests.{le-leb, le-ltb, lt-ltb, eq-eqb}
 use Rattle.common.specs.Choice.{pick}
 use Rattle.tree.specs.Tree.{Tree}
 use Rattle.tree.specs.Tree.Tree.{literal, bound, row, run, one, two, three, four, when}
-use Rattle.tree.specs.Bounds.{depth, nodes, argumentsOf, whenKind, Proper, Small, Within}
+use Rattle.tree.specs.Bounds.{depth, nodes, whenKind, Proper, Small, Within}
 use Rattle.tree.specs.Names.{NoBound}
-use Rattle.records.specs.Record.{recordOf, word, Front, frontOf}
-use Rattle.records.specs.Record.Front.{front, cut}
+use Rattle.records.specs.Record.{recordOf, frontOf}
+use Rattle.records.specs.Record.Front.{front}
 use Rattle.records.specs.Encode.{constantKind, rowKind, runKind, boundKind, encode}
-use Rattle.records.specs.Decode.{Shape, callShape, shapeOf, Item, thenItem, thenFront, filled, constantIn, digitIn, oneIn, twoIn, threeIn, fourIn, byShape, decode, Image, wholeOf, imageWith, imageOf}
-use Rattle.records.specs.Decode.Shape.{aConstant, aBound, aRow, aRun, aWhen, aOne, aTwo, aThree, aFour, noShape}
-use Rattle.records.specs.Decode.Item.{item, noItem}
-use Rattle.records.specs.Decode.Image.{image, noImage}
+use Rattle.records.specs.Decode.{Shape, shapeOf, Item, thenItem, thenFront, filled, constantIn, digitIn, oneIn, twoIn, threeIn, fourIn, byShape, decode, wholeOf, imageWith}
+use Rattle.records.specs.Decode.Shape.{aConstant, aRow, aRun, aWhen, aOne, aTwo, aThree, aFour}
+use Rattle.records.specs.Decode.Item.{item}
+use Rattle.records.specs.Decode.Image.{image}
 use Rattle.records.proofs.Shapes.{pick-true, pick-false, leaf-shapes, bound-shape, call-shape, not-when, call-shapes}
 
 pub length-record : (k : ℕ) (p : List ℕ) → length (recordOf k p) ≡ 4 + length p

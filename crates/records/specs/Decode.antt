@@ -1,6 +1,6 @@
 -- Image bytes as a tree, or none (document 01, section 6; 28, bytes are no image).
-use mathlib.Core.Bool.{Bool, true, false}
-use mathlib.Core.List.{List, [], _∷_}
+use mathlib.Core.Bool.{Bool, false}
+use mathlib.Core.List.{List}
 use Prim.Native.Nat.{ℕ, zero, suc, _+_}
 use lib.Dec.{eqb, leb, ltb}
 use lib.ListN.{length, getD, drop}

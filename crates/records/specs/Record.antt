@@ -1,5 +1,5 @@
 -- One record (document 01, section 6).
-use mathlib.Core.List.{List, [], _∷_}
+use mathlib.Core.List.{List, _∷_}
 use Prim.Native.Nat.{ℕ, _+_, _*_, _-_, _/_, _%_}
 use lib.Dec.{ltb}
 use lib.ListN.{length, getD, take, drop}

@@ -1,8 +1,8 @@
 -- Lists of bytes, put together and taken apart.
-use mathlib.Core.List.{List, [], _∷_, _++_}
+use mathlib.Core.List.{[], _∷_, _++_}
 use Prim.Native.Nat.{ℕ, zero, suc, _<_}
 use native.Mathlib.Omega.{arith}
-use lib.ListN.{getD, take, drop}
+use lib.ListN.{take, drop}
 use Rattle.common.specs.Answer.{Value}
 use Rattle.common.specs.Places.{tab}
 use Rattle.tree.specs.Bounds.{Bytes}

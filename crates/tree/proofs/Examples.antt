@@ -1,13 +1,13 @@
 -- The table of calls, kind by kind, and the bounds at their edges (document 01, sections 5 and 6).
 use mathlib.Core.Path.{_≡_, refl}
-use mathlib.Core.List.{List, [], _∷_, _++_, map}
+use mathlib.Core.List.{List, [], _∷_, _++_}
 use Prim.Native.Nat.{ℕ, zero, suc, _+_, _*_}
 use lib.ListN.{length, replicate}
 use Rattle.common.specs.Choice.{pick}
 use Rattle.common.specs.Places.{tab}
 use Rattle.tree.specs.Tree.{Tree}
-use Rattle.tree.specs.Tree.Tree.{literal, bound, row, run, one, two, three, four, when}
-use Rattle.tree.specs.Calls.{Call, calls, plain, cipher}
+use Rattle.tree.specs.Tree.Tree.{literal, row, run, two, when}
+use Rattle.tree.specs.Calls.{calls, plain, cipher}
 use Rattle.tree.specs.Bounds.{ofRow, argumentsIn, argumentsOf, depth, nodes}
 
 -- below 0100: cat, xor, eq and head have two arguments, when three

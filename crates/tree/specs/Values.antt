@@ -4,8 +4,8 @@ use Prim.Native.Nat.{ℕ, _≤_}
 use lib.ListN.{length}
 use Rattle.common.specs.Answer.{Value}
 use Rattle.tree.specs.Bounds.{Bytes}
-use Rattle.tree.specs.Names.{Given, Binding, Running}
-use Rattle.tree.specs.Names.Given.{given, nothing}
+use Rattle.tree.specs.Names.{Binding, Running}
+use Rattle.tree.specs.Names.Given.{given}
 
 pub record IsValue (v : Value) : Type 0 where
   pub short : length v ≤ 1024
