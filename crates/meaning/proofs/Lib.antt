@@ -5,5 +5,6 @@ pub mod Constants
 pub mod Left
 pub mod TopDown
 pub mod Plain
+pub mod Refusals
 pub mod Within
 pub mod Examples

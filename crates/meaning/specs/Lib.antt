@@ -4,3 +4,4 @@ pub mod Real
 pub mod Fold
 pub mod Folded
 pub mod Values
+pub mod Numbers

@@ -2,6 +2,8 @@
 pub mod Scan
 pub mod Demand
 pub mod Room
+pub mod Reach
+pub mod Zero
 pub mod Orders
 pub mod Computing
 pub mod Points

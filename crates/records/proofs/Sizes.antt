@@ -84,3 +84,31 @@ encode-injective t r pt st pr sr e =
     let a : decode true d (encode t ++ []) ≡ item t (length (encode t)) = decode-encode true t d [] pt st (λ q. absurd (true-false q)) (omega arith) in
     let b : decode true d (encode r ++ []) ≡ item r (length (encode r)) = decode-encode true r d [] pr sr (λ q. absurd (true-false q)) (omega arith) in
     same-item (sym a ∙ ap (λ l. decode true d (l ++ [])) e ∙ b)
+
+-- an encoding is a head and its arguments' encodings
+pub length-one : (k : ℕ) (a : Tree) → length (encode (one k a)) ≡ 4 + length (encode a)
+unfolding encode
+length-one k a = length-record k (encode a)
+
+pub length-two : (k : ℕ) (a b : Tree) → length (encode (two k a b)) ≡ 4 + length (encode a) + length (encode b)
+unfolding encode
+length-two k a b = omega (arith, length-record k (encode a ++ encode b), length-append (encode a) (encode b))
+
+pub length-three : (k : ℕ) (a b c : Tree) → length (encode (three k a b c)) ≡ 4 + length (encode a) + length (encode b) + length (encode c)
+unfolding encode
+length-three k a b c =
+    omega (arith, length-record k (encode a ++ (encode b ++ encode c)), length-append (encode a) (encode b ++ encode c), length-append (encode b) (encode c))
+
+pub length-four : (k : ℕ) (a b c d : Tree) → length (encode (four k a b c d)) ≡ 4 + length (encode a) + length (encode b) + length (encode c) + length (encode d)
+unfolding encode
+length-four k a b c d =
+    let l = length-record k (encode a ++ (encode b ++ (encode c ++ encode d))) in
+    let m = length-append (encode a) (encode b ++ (encode c ++ encode d)) in
+    let n = length-append (encode b) (encode c ++ encode d) in
+    let o = length-append (encode c) (encode d) in
+    omega arith
+
+pub length-when : (c a b : Tree) → length (encode (when c a b)) ≡ 4 + length (encode c) + length (encode a) + length (encode b)
+unfolding encode
+length-when c a b =
+    omega (arith, length-record whenKind (encode c ++ (encode a ++ encode b)), length-append (encode c) (encode a ++ encode b), length-append (encode a) (encode b))
