@@ -11,3 +11,4 @@ pub mod Numbers
 pub mod Exactly
 pub mod Unbound
 pub mod Offsets
+pub mod Ways
