@@ -12,3 +12,4 @@ pub mod Exactly
 pub mod Unbound
 pub mod Offsets
 pub mod Ways
+pub mod Packed
