@@ -45,16 +45,8 @@ use Rattle.texts.specs.Reading.Due.{stands, missing}
 use Rattle.texts.specs.Reading.Start.{quote, hash, dollar, sign, letter, other}
 use Rattle.texts.proofs.Standing.{stands-here, Stood, due-is, if-due, then-part, pick-bad, no-part, run-within}
 use Rattle.texts.proofs.Table.{Good, Kinds, all-good, by-letters, arguments-of, suited-kind, plain-row}
-use Rattle.texts.proofs.Spelt.{spells, total, name-is}
+use Rattle.texts.proofs.Spelt.{spells, total, deepest, Each, max-last, name-is}
 use Rattle.texts.proofs.LeavesBack.{Back, back-as, literal-back, bound-back, row-back, run-back}
-
-abbrev pub Each : (Tree → Type 0) → List Tree → Type 0
-Each P [] = Unit {0}
-Each P (a ∷ l) = P a × Each P l
-
-unfoldable pub deepest : List Tree → ℕ
-deepest [] = 0
-deepest (a ∷ l) = max (depth a) (deepest l)
 
 -- what reading an argument list says
 pub record ArgsBack (d : ℕ) (s : List ℕ) (left c p n : ℕ) (l : List Tree) (q m : ℕ) : Type 0 where
@@ -166,9 +158,6 @@ three-made k a b c u j n e h w =
       many = omega arith;
     }
 
-last : (x : ℕ) → x ≡ max x 0
-last x = omega arith
-
 call-made : (k : ℕ) (l : List Tree) (u j : ℕ) (t : Tree) (q m : ℕ) → argumentsOf k ≡ length l → Each Proper l → Each Small l → callOf k l u j ≡ part t q m → Made k l u j t q m
 unfolding callOf spell spells Proper Small depth nodes deepest total pick
 call-made k [] u j t q m n h w e = absurd (no-part e)
@@ -192,7 +181,7 @@ call-made k (a ∷ (b ∷ (c ∷ (g ∷ [])))) u j t q m n h w e =
       nodes-same = refl;
       proper = (n, h .0, h .1 .0, h .1 .1 .0, h .1 .1 .1 .0);
       small = (w .0, w .1 .0, w .1 .1 .0, w .1 .1 .1 .0);
-      deep = ap (λ (x : ℕ). suc (max (depth a) (max (depth b) (max (depth c) x)))) (last (depth g));
+      deep = ap (λ (x : ℕ). suc (max (depth a) (max (depth b) (max (depth c) x)))) (max-last (depth g));
       many = omega arith;
     }
     )
