@@ -13,3 +13,4 @@ pub mod Unbound
 pub mod Offsets
 pub mod Ways
 pub mod Packed
+pub mod Allowed
