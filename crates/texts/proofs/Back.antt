@@ -45,16 +45,8 @@ use Rattle.texts.specs.Reading.Due.{stands, missing}
 use Rattle.texts.specs.Reading.Start.{quote, hash, dollar, sign, letter, other}
 use Rattle.texts.proofs.Standing.{stands-here, Stood, due-is, if-due, then-part, pick-bad, no-part, run-within}
 use Rattle.texts.proofs.Table.{Good, Kinds, all-good, by-letters, arguments-of, suited-kind, plain-row}
-use Rattle.texts.proofs.Spelt.{spells, total, name-is}
+use Rattle.texts.proofs.Spelt.{spells, total, deepest, Each, max-last, name-is}
 use Rattle.texts.proofs.LeavesBack.{Back, back-as, literal-back, bound-back, row-back, run-back}
-
-abbrev pub Each : (Tree → Type 0) → List Tree → Type 0
-Each P [] = Unit {0}
-Each P (a ∷ l) = P a × Each P l
-
-unfoldable pub deepest : List Tree → ℕ
-deepest [] = 0
-deepest (a ∷ l) = max (depth a) (deepest l)
 
 -- what reading an argument list says
 pub record ArgsBack (d : ℕ) (s : List ℕ) (left c p n : ℕ) (l : List Tree) (q m : ℕ) : Type 0 where
@@ -74,14 +66,14 @@ args-as d s left c p n a l u j q m h e =
     rw (← ea, ← eq, ← em) h
 
 -- a byte that was due stands there
-byte-stands : (s : List ℕ) (c p : ℕ) → Stood s c c p → drop p s ≡ c ∷ drop (p + 1) s
+pub byte-stands : (s : List ℕ) (c p : ℕ) → Stood s c c p → drop p s ≡ c ∷ drop (p + 1) s
 byte-stands s c p st =
     let l = st .low in
     let h = st .high in
     let is : getD s p 0 ≡ c = omega arith in
     stands-here s p (st .inside) ∙ ap (λ (x : ℕ). x ∷ drop (p + 1) s) is
 
-abbrev Sub : ℕ → List ℕ → (ℕ → ℕ → Part Tree) → Type 0
+abbrev pub Sub : ℕ → List ℕ → (ℕ → ℕ → Part Tree) → Type 0
 Sub d s expr = (p n : ℕ) (t : Tree) (q m : ℕ) → expr p n ≡ part t q m → Back d s p n t q m
 
 no-args : (d : ℕ) (s : List ℕ) (c p n : ℕ) → Stood s 41 41 p → ArgsBack d s 0 c p n [] (p + 1) n
@@ -108,7 +100,7 @@ more-args d s left c p n a q m l u j st A L =
       few = λ h. L .few (A .few);
     }
 
-args-back : (d : ℕ) (expr : ℕ → ℕ → Part Tree) (s : List ℕ) (left c p n : ℕ) (l : List Tree) (q m : ℕ) → Sub d s expr → argsAt expr s left c p n ≡ part l q m
+pub args-back : (d : ℕ) (expr : ℕ → ℕ → Part Tree) (s : List ℕ) (left c p n : ℕ) (l : List Tree) (q m : ℕ) → Sub d s expr → argsAt expr s left c p n ≡ part l q m
     → ArgsBack d s left c p n l q m
 unfolding argsAt
 args-back d expr s zero c p n l q m sub e =
@@ -128,7 +120,7 @@ pub record Made (k : ℕ) (l : List Tree) (u j : ℕ) (t : Tree) (q m : ℕ) : T
   pub place : u ≡ q
   pub nodes-same : j ≡ m
   pub proper : Proper t
-  pub small : Small t
+  pub small : Each Small l → Small t
   pub deep : depth t ≡ suc (deepest l)
   pub many : nodes t ≡ suc (total l)
 
@@ -139,51 +131,48 @@ made-as k l u j a t q m h e =
     let em : j ≡ m = cc in
     rw (← ea, ← eq, ← em) h
 
-when-made : (k : ℕ) (a b c : Tree) (u j : ℕ) → k ≡ whenKind → Each Proper (a ∷ b ∷ c ∷ []) → Each Small (a ∷ b ∷ c ∷ []) → Made k (a ∷ b ∷ c ∷ []) u j (when a b c) u j
+when-made : (k : ℕ) (a b c : Tree) (u j : ℕ) → k ≡ whenKind → Each Proper (a ∷ b ∷ c ∷ []) → Made k (a ∷ b ∷ c ∷ []) u j (when a b c) u j
 unfolding spell spells Proper Small depth nodes deepest total
-when-made k a b c u j e h w =
+when-made k a b c u j e h =
     record {
       spelt = rw e refl;
       place = refl;
       nodes-same = refl;
       proper = (h .0, h .1 .0, h .1 .1 .0);
-      small = (w .0, w .1 .0, w .1 .1 .0);
+      small = λ w. (w .0, w .1 .0, w .1 .1 .0);
       deep = omega arith;
       many = omega arith;
     }
 
-three-made : (k : ℕ) (a b c : Tree) (u j : ℕ) → argumentsOf k ≡ 3 → (k ≡ whenKind → ⊥) → Each Proper (a ∷ b ∷ c ∷ []) → Each Small (a ∷ b ∷ c ∷ [])
+three-made : (k : ℕ) (a b c : Tree) (u j : ℕ) → argumentsOf k ≡ 3 → (k ≡ whenKind → ⊥) → Each Proper (a ∷ b ∷ c ∷ [])
     → Made k (a ∷ b ∷ c ∷ []) u j (three k a b c) u j
 unfolding spell spells Proper Small depth nodes deepest total
-three-made k a b c u j n e h w =
+three-made k a b c u j n e h =
     record {
       spelt = refl;
       place = refl;
       nodes-same = refl;
       proper = (n, e, h .0, h .1 .0, h .1 .1 .0);
-      small = (w .0, w .1 .0, w .1 .1 .0);
+      small = λ w. (w .0, w .1 .0, w .1 .1 .0);
       deep = omega arith;
       many = omega arith;
     }
 
-last : (x : ℕ) → x ≡ max x 0
-last x = omega arith
-
-call-made : (k : ℕ) (l : List Tree) (u j : ℕ) (t : Tree) (q m : ℕ) → argumentsOf k ≡ length l → Each Proper l → Each Small l → callOf k l u j ≡ part t q m → Made k l u j t q m
+pub call-made : (k : ℕ) (l : List Tree) (u j : ℕ) (t : Tree) (q m : ℕ) → argumentsOf k ≡ length l → Each Proper l → callOf k l u j ≡ part t q m → Made k l u j t q m
 unfolding callOf spell spells Proper Small depth nodes deepest total pick
-call-made k [] u j t q m n h w e = absurd (no-part e)
-call-made k (a ∷ []) u j t q m n h w e =
+call-made k [] u j t q m n h e = absurd (no-part e)
+call-made k (a ∷ []) u j t q m n h e =
     made-as k (a ∷ []) u j (one k a) t q m
-    (record { spelt = refl; place = refl; nodes-same = refl; proper = (n, h .0); small = w .0; deep = omega arith; many = omega arith }) e
-call-made k (a ∷ (b ∷ [])) u j t q m n h w e =
+    (record { spelt = refl; place = refl; nodes-same = refl; proper = (n, h .0); small = λ w. w .0; deep = omega arith; many = omega arith }) e
+call-made k (a ∷ (b ∷ [])) u j t q m n h e =
     made-as k (a ∷ b ∷ []) u j (two k a b) t q m
-    (record { spelt = refl; place = refl; nodes-same = refl; proper = (n, h .0, h .1 .0); small = (w .0, w .1 .0); deep = omega arith; many = omega arith }) e
-call-made k (a ∷ (b ∷ (c ∷ []))) u j t q m n h w e = go (eqb k whenKind) refl e
+    (record { spelt = refl; place = refl; nodes-same = refl; proper = (n, h .0, h .1 .0); small = λ w. (w .0, w .1 .0); deep = omega arith; many = omega arith }) e
+call-made k (a ∷ (b ∷ (c ∷ []))) u j t q m n h e = go (eqb k whenKind) refl e
   where
     go : (x : Bool) → eqb k whenKind ≡ x → part (pick x (when a b c) (three k a b c)) u j ≡ part t q m → Made k (a ∷ b ∷ c ∷ []) u j t q m
-    go true ex f = made-as k (a ∷ b ∷ c ∷ []) u j (when a b c) t q m (when-made k a b c u j (eqb-true k whenKind ex) h w) f
-    go false ex f = made-as k (a ∷ b ∷ c ∷ []) u j (three k a b c) t q m (three-made k a b c u j n (eqb-false k whenKind ex) h w) f
-call-made k (a ∷ (b ∷ (c ∷ (g ∷ [])))) u j t q m n h w e =
+    go true ex f = made-as k (a ∷ b ∷ c ∷ []) u j (when a b c) t q m (when-made k a b c u j (eqb-true k whenKind ex) h) f
+    go false ex f = made-as k (a ∷ b ∷ c ∷ []) u j (three k a b c) t q m (three-made k a b c u j n (eqb-false k whenKind ex) h) f
+call-made k (a ∷ (b ∷ (c ∷ (g ∷ [])))) u j t q m n h e =
     made-as k (a ∷ b ∷ c ∷ g ∷ []) u j (four k a b c g) t q m
     (
     record {
@@ -191,13 +180,13 @@ call-made k (a ∷ (b ∷ (c ∷ (g ∷ [])))) u j t q m n h w e =
       place = refl;
       nodes-same = refl;
       proper = (n, h .0, h .1 .0, h .1 .1 .0, h .1 .1 .1 .0);
-      small = (w .0, w .1 .0, w .1 .1 .0, w .1 .1 .1 .0);
-      deep = ap (λ (x : ℕ). suc (max (depth a) (max (depth b) (max (depth c) x)))) (last (depth g));
+      small = λ w. (w .0, w .1 .0, w .1 .1 .0, w .1 .1 .1 .0);
+      deep = ap (λ (x : ℕ). suc (max (depth a) (max (depth b) (max (depth c) x)))) (max-last (depth g));
       many = omega arith;
     }
     )
     e
-call-made k (a ∷ (b ∷ (c ∷ (g ∷ (i ∷ l))))) u j t q m n h w e = absurd (no-part e)
+call-made k (a ∷ (b ∷ (c ∷ (g ∷ (i ∷ l))))) u j t q m n h e = absurd (no-part e)
 
 -- what reading a call's list says: its tree has the name before it
 pub record ListBack (d : ℕ) (s : List ℕ) (k p n : ℕ) (t : Tree) (q m : ℕ) : Type 0 where
@@ -224,7 +213,7 @@ list-made d s k p n l u j t q m few A M =
       spelt = M .spelt;
       same = A .same ∙ ap (λ (i : ℕ). listed 40 (spells l) ++ drop i s) (M .place);
       proper = M .proper;
-      small = M .small;
+      small = M .small (A .small);
       deep = omega arith;
       count = omega arith;
       few = omega arith;
@@ -236,7 +225,7 @@ module _ (d : ℕ) (expr : ℕ → ℕ → Part Tree) (s : List ℕ) (t : Tree) 
   list-back k count p c e =
       let (l, u, j, e1, e2) = then-part (argsAt expr s count 40 p (n + 1)) (callOf k) e in
       let A = args-back d expr s count 40 p (n + 1) l u j sub e1 in
-      list-made d s k p n l u j t q m few (rw c A) (call-made k l u j t q m (c ∙ sym (A .size)) (A .proper) (A .small) e2)
+      list-made d s k p n l u j t q m few (rw c A) (call-made k l u j t q m (c ∙ sym (A .size)) (A .proper) e2)
 
   -- the letters w stand before p, where the suite and the list begin
   abbrev Whole : List ℕ → ℕ → Type 0

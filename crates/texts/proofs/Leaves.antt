@@ -76,31 +76,34 @@ tab-pairs (x ∷ v) s q r h e =
     tab-ext (length v) (λ i. pairAt s (q + 2 * suc i)) (λ i. pairAt s (q + 1 + 1 + 2 * i)) (λ i l. ap (pairAt s) (move i)) ∙ tab-pairs v s (q + 1 + 1) r (λ i. h (suc i)) e2 in
     ap₂ (λ (y : ℕ) (l : List ℕ). y ∷ l) head tail
 
-literal-of : (s : List ℕ) (p n k : ℕ) (v r : List ℕ) → Bytes v → length v ≤ 1024 → k ≡ 2 * length v → drop (p + 1) s ≡ pairs v ++ (39 ∷ r)
-    → literalOf s p n k ≡ part (literal v) (p + (2 + 2 * length v)) (n + 1)
+literal-of : (s : List ℕ) (p n k : ℕ) (v r : List ℕ) → Bytes v → k ≡ 2 * length v → drop (p + 1) s ≡ pairs v ++ (39 ∷ r)
+    → literalOf s p n k ≡ pick (leb (length v) 1024) (part (literal v) (p + (2 + 2 * length v)) (n + 1)) (bad 6 p)
 unfolding literalOf ifDue pick
-literal-of s p n k v r h small ek e =
+literal-of s p n k v r h ek e =
     let len : length (pairs v) ≡ k = length-pairs v ∙ sym ek in
     let after : drop (p + 1 + k) s ≡ 39 ∷ r = ap (λ (i : ℕ). drop (p + 1 + i) s) (sym len) ∙ stands-after s (p + 1) (pairs v) (39 ∷ r) e in
     let half : k / 2 ≡ length v = omega arith in
     let even : k % 2 ≡ 0 = omega arith in
     let place : p + 1 + k + 1 ≡ p + (2 + 2 * length v) = omega arith in
     let value : tab (k / 2) (λ i. pairAt s (p + 1 + 2 * i)) ≡ v = ap (λ (m : ℕ). tab m (λ i. pairAt s (p + 1 + 2 * i))) half ∙ tab-pairs v s (p + 1) (39 ∷ r) h e in
-    rw (due-stands s 39 39 (p + 1 + k) 39 r after (omega arith) (omega arith), eq-eqb (k % 2) 0 even, le-leb (k / 2) 1024 (omega arith))
+    rw (due-stands s 39 39 (p + 1 + k) 39 r after (omega arith) (omega arith), eq-eqb (k % 2) 0 even)
+    (
+    ap₂ (λ (b : Bool) (x : Part Tree). pick b x (bad 6 p)) (ap (λ (i : ℕ). leb i 1024) half)
     (ap₂ (λ (w : List ℕ) (q : ℕ). part (literal w) q (n + 1)) value place)
+    )
 
 quote-ends : (r : List ℕ) → runOf isHex (39 ∷ r) ≡ 0
 unfolding runOf isHex between pick
 quote-ends r = refl
 
--- a literal of at most 1,024 bytes is read where it is spelt
-pub literal-read : (s : List ℕ) (p n : ℕ) (v r : List ℕ) → Bytes v → length v ≤ 1024 → drop p s ≡ 39 ∷ (pairs v ++ (39 ∷ r))
-    → literalAt s p n ≡ part (literal v) (p + (2 + 2 * length v)) (n + 1)
+-- a literal is read where it is spelt; 6 where it has more than 1,024 bytes
+pub literal-read : (s : List ℕ) (p n : ℕ) (v r : List ℕ) → Bytes v → drop p s ≡ 39 ∷ (pairs v ++ (39 ∷ r))
+    → literalAt s p n ≡ pick (leb (length v) 1024) (part (literal v) (p + (2 + 2 * length v)) (n + 1)) (bad 6 p)
 unfolding literalAt
-literal-read s p n v r h small e =
+literal-read s p n v r h e =
     let f = stands-next s p 39 (pairs v ++ (39 ∷ r)) e in
     let k : runOf isHex (drop (p + 1) s) ≡ 2 * length v = ap (runOf isHex) f ∙ run-is isHex (pairs v) (39 ∷ r) (pairs-pass v h) (quote-ends r) ∙ length-pairs v in
-    literal-of s p n (runOf isHex (drop (p + 1) s)) v r h small k f
+    literal-of s p n (runOf isHex (drop (p + 1) s)) v r h k f
 
 -- a name with its digit in range is read where it is spelt
 pub name-read : (name : ℕ → Tree) (hi : ℕ) (s : List ℕ) (p n x d : ℕ) (r : List ℕ) → 48 + d ≤ hi → drop p s ≡ x ∷ (48 + d) ∷ r → nameAt name hi s p n ≡ part (name d) (p + 2) (n + 1)

@@ -11,3 +11,6 @@ pub mod Numbers
 pub mod Exactly
 pub mod Unbound
 pub mod Offsets
+pub mod Ways
+pub mod Packed
+pub mod Allowed

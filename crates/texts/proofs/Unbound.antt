@@ -1,6 +1,7 @@
 -- The first unbound `#` of a tree stands where the text has it.
 use mathlib.Core.Bool.{Bool, true, false}
 use mathlib.Core.List.{List, [], _∷_, _++_, append-assoc, append-nil}
+use mathlib.Core.Logic.{_↔_}
 use mathlib.Core.Path.{_≡_, refl, sym, ap, ap₂, _∙_}
 use Prim.Native.Nat.{ℕ, zero, suc, _+_, _-_, _*_, _/_, _%_, _≤_, _<_}
 use native.Mathlib.Nat.{add-zero, zero-add}
@@ -16,7 +17,7 @@ use Rattle.tree.specs.Bounds.{whenKind, Proper}
 use Rattle.texts.specs.Spelling.{Found, hexDigit, pairs, rowIn, suitePart, nameBy, nameOf, listed, spell, headWidth, width}
 use Rattle.texts.specs.Spelling.Found.{known, unknown}
 use Rattle.texts.specs.Reading.{isLetter, between}
-use Rattle.texts.specs.Unbound.{Place, later, first, unboundAt, unboundIn}
+use Rattle.texts.specs.Unbound.{Place, later, first, unboundAt, AllBound, unboundIn}
 use Rattle.texts.specs.Unbound.Place.{at, nowhere}
 use Rattle.texts.proofs.Standing.{Pass, between-is}
 use Rattle.texts.proofs.Table.{Good, all-good, by-kind}
@@ -366,3 +367,80 @@ unbound-first has t p e = scan-first has (spell t) p (sym (unbound-scan has t) �
 -- no place of 25: every `#` of the text has a value
 pub unbound-none : (has : ℕ → Bool) (t : Tree) → unboundAt has t ≡ nowhere → (q : ℕ) → getD (spell t) q 0 ≡ 35 → has (getD (spell t) (q + 1) 0 - 48) ≡ true
 unbound-none has t e = scan-none has (spell t) (sym (unbound-scan has t) ∙ e)
+
+first-none : (x : Place) (w : ℕ) (y : Place) → first x w y ≡ nowhere → (x ≡ nowhere) × (y ≡ nowhere)
+unfolding first
+first-none (at p) w y e = absurd (no-place (sym e))
+first-none nowhere w y e = (refl, later-nowhere w y e)
+
+none-first : (x : Place) (w : ℕ) (y : Place) → x ≡ nowhere → y ≡ nowhere → first x w y ≡ nowhere
+unfolding first later
+none-first x w y e f = rw (e, f)
+
+none-later : (w : ℕ) (x : Place) → x ≡ nowhere → later w x ≡ nowhere
+unfolding later
+none-later w x e = rw e
+
+-- no place of 25 means that every `#` of the tree has a value
+pub none-all : (has : ℕ → Bool) (t : Tree) → unboundAt has t ≡ nowhere → AllBound has t
+unfolding unboundAt AllBound pick
+none-all has (literal v) e = tt
+none-all has (bound n) e = go (has n) refl e
+  where
+    go : (b : Bool) → has n ≡ b → pick b nowhere (at 0) ≡ nowhere → has n ≡ true
+    go true eb f = eb
+    go false eb f = absurd (no-place (sym f))
+none-all has (row n) e = tt
+none-all has (run n) e = tt
+none-all has (one k a) e = none-all has a (later-nowhere (headWidth k) (unboundAt has a) e)
+none-all has (two k a b) e =
+    let (ea, eb) = first-none (unboundAt has a) (width a + 1) (unboundAt has b) (later-nowhere (headWidth k) (first (unboundAt has a) (width a + 1) (unboundAt has b)) e) in
+    (none-all has a ea, none-all has b eb)
+none-all has (three k a b c) e =
+    let B : Place = first (unboundAt has b) (width b + 1) (unboundAt has c) in
+    let (ea, e1) = first-none (unboundAt has a) (width a + 1) B (later-nowhere (headWidth k) (first (unboundAt has a) (width a + 1) B) e) in
+    let (eb, ec) = first-none (unboundAt has b) (width b + 1) (unboundAt has c) e1 in
+    (none-all has a ea, none-all has b eb, none-all has c ec)
+none-all has (four k a b c d) e =
+    let C : Place = first (unboundAt has c) (width c + 1) (unboundAt has d) in
+    let B : Place = first (unboundAt has b) (width b + 1) C in
+    let (ea, e1) = first-none (unboundAt has a) (width a + 1) B (later-nowhere (headWidth k) (first (unboundAt has a) (width a + 1) B) e) in
+    let (eb, e2) = first-none (unboundAt has b) (width b + 1) C e1 in
+    let (ec, ed) = first-none (unboundAt has c) (width c + 1) (unboundAt has d) e2 in
+    (none-all has a ea, none-all has b eb, none-all has c ec, none-all has d ed)
+none-all has (when c a b) e =
+    let A : Place = first (unboundAt has a) (width a + 1) (unboundAt has b) in
+    let (ec, e1) = first-none (unboundAt has c) (width c + 1) A (later-nowhere (headWidth whenKind) (first (unboundAt has c) (width c + 1) A) e) in
+    let (ea, eb) = first-none (unboundAt has a) (width a + 1) (unboundAt has b) e1 in
+    (none-all has c ec, none-all has a ea, none-all has b eb)
+
+pub all-none : (has : ℕ → Bool) (t : Tree) → AllBound has t → unboundAt has t ≡ nowhere
+unfolding unboundAt AllBound pick
+all-none has (literal v) h = refl
+all-none has (bound n) h = rw h
+all-none has (row n) h = refl
+all-none has (run n) h = refl
+all-none has (one k a) h = none-later (headWidth k) (unboundAt has a) (all-none has a h)
+all-none has (two k a b) h =
+    none-later (headWidth k) (first (unboundAt has a) (width a + 1) (unboundAt has b))
+    (none-first (unboundAt has a) (width a + 1) (unboundAt has b) (all-none has a (h .0)) (all-none has b (h .1)))
+all-none has (three k a b c) h =
+    let B : Place = first (unboundAt has b) (width b + 1) (unboundAt has c) in
+    none-later (headWidth k) (first (unboundAt has a) (width a + 1) B)
+    (none-first (unboundAt has a) (width a + 1) B (all-none has a (h .0)) (none-first (unboundAt has b) (width b + 1) (unboundAt has c) (all-none has b (h .1)) (all-none has c (h .2))))
+all-none has (four k a b c d) h =
+    let C : Place = first (unboundAt has c) (width c + 1) (unboundAt has d) in
+    let B : Place = first (unboundAt has b) (width b + 1) C in
+    none-later (headWidth k) (first (unboundAt has a) (width a + 1) B)
+    (
+    none-first (unboundAt has a) (width a + 1) B (all-none has a (h .0))
+    (none-first (unboundAt has b) (width b + 1) C (all-none has b (h .1)) (none-first (unboundAt has c) (width c + 1) (unboundAt has d) (all-none has c (h .2)) (all-none has d (h .3))))
+    )
+all-none has (when c a b) h =
+    let A : Place = first (unboundAt has a) (width a + 1) (unboundAt has b) in
+    none-later (headWidth whenKind) (first (unboundAt has c) (width c + 1) A)
+    (none-first (unboundAt has c) (width c + 1) A (all-none has c (h .0)) (none-first (unboundAt has a) (width a + 1) (unboundAt has b) (all-none has a (h .1)) (all-none has b (h .2))))
+
+-- 25 is given exactly where some `#` of the tree has no value
+pub none-exactly : (has : ℕ → Bool) (t : Tree) → (unboundAt has t ≡ nowhere) ↔ AllBound has t
+none-exactly has t = (none-all has t, all-none has t)

@@ -78,3 +78,16 @@ length-spell (when c a b) =
       length-next (spell a) (spell b ++ (41 ∷ [])) (width a) (length-spell a),
       length-last (spell b) (width b) (length-spell b),
     )
+
+-- no tree takes less than two bytes
+pub width-two : (t : Tree) → 2 ≤ width t
+unfolding width headWidth
+width-two (literal v) = omega arith
+width-two (bound n) = omega arith
+width-two (row n) = omega arith
+width-two (run n) = omega arith
+width-two (one k a) = omega arith
+width-two (two k a b) = omega arith
+width-two (three k a b c) = omega arith
+width-two (four k a b c d) = omega arith
+width-two (when c a b) = omega arith

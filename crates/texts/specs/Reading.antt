@@ -86,7 +86,7 @@ unfoldable pub callIn : List Call → List ℕ → Found
 callIn [] w = unknown
 callIn (r ∷ rs) w = let later = callIn rs w in pick (same (r .letters) w) (known r) later
 
--- a call of this kind with these arguments
+-- a call of this kind with these arguments: the calls of the table have one to four
 unfoldable pub callOf : ℕ → List Tree → ℕ → ℕ → Part Tree
 callOf k [] p n = bad 20 p
 callOf k (a ∷ []) p n = part (one k a) p n

@@ -1,6 +1,7 @@
 -- The place of the first unbound `#` (document 01, section 7: 25), dropped sides included.
 use mathlib.Core.Bool.{Bool, true, false}
 use mathlib.Core.List.{List, [], _∷_}
+use mathlib.Core.Path.{_≡_}
 use Prim.Native.Nat.{ℕ, _+_, _-_}
 use lib.Dec.{eqb}
 use lib.ListN.{getD}
@@ -36,6 +37,18 @@ unboundAt has (three k a b c) = later (headWidth k) (first (unboundAt has a) (wi
 unboundAt has (four k a b c d) =
     later (headWidth k) (first (unboundAt has a) (width a + 1) (first (unboundAt has b) (width b + 1) (first (unboundAt has c) (width c + 1) (unboundAt has d))))
 unboundAt has (when c a b) = later (headWidth whenKind) (first (unboundAt has c) (width c + 1) (first (unboundAt has a) (width a + 1) (unboundAt has b)))
+
+-- every `#` of a tree has a value, dropped sides included
+unfoldable pub AllBound : (ℕ → Bool) → Tree → Type 0
+AllBound has (literal v) = Unit {0}
+AllBound has (bound n) = has n ≡ true
+AllBound has (row n) = Unit {0}
+AllBound has (run n) = Unit {0}
+AllBound has (one k a) = AllBound has a
+AllBound has (two k a b) = AllBound has a × AllBound has b
+AllBound has (three k a b c) = AllBound has a × AllBound has b × AllBound has c
+AllBound has (four k a b c d) = AllBound has a × AllBound has b × AllBound has c × AllBound has d
+AllBound has (when c a b) = AllBound has c × AllBound has a × AllBound has b
 
 -- the same by the text alone: the first `#` whose digit has no value
 unfoldable pub unboundIn : (ℕ → Bool) → List ℕ → Place
