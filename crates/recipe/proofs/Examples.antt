@@ -1,18 +1,15 @@
 -- Preparing and running at each number and place (document 01, sections 5 to 7 and 10), whatever the cipher calls mean.
 use mathlib.Core.Path.{_≡_, refl}
 use mathlib.Core.List.{List, [], _∷_, _++_}
-use Prim.Native.Nat.{ℕ, zero, suc}
-use Prim.Native.String.{String}
+use Prim.Native.Nat.{ℕ}
 use lib.ListN.{length, replicate}
 use Rattle.common.specs.Choice.{pick}
 use Rattle.common.specs.Answer.{deliver, refusal}
 use Rattle.common.specs.Answer.Answer.{value, refused}
-use Rattle.tree.specs.Tree.Tree.{when}
 use Rattle.meaning.specs.Real.{Cipher}
-use Rattle.records.specs.Record.{recordOf}
 use Rattle.texts.specs.Reading.{readText}
 use Rattle.texts.proofs.Examples.{text}
-use Rattle.recipe.specs.Prepare.{Prepared, afterRead, preparedOf}
+use Rattle.recipe.specs.Prepare.{afterRead, preparedOf}
 use Rattle.recipe.specs.Prepare.Prepared.{made, stopped}
 use Rattle.recipe.specs.Run.{ranOf}
 use Rattle.recipe.proofs.Computing.{prepares, runs}
@@ -26,20 +23,6 @@ run43 = 0x01 ∷ 0x00 ∷ 0x01 ∷ 0x04 ∷ 0x43 ∷ []
 
 abbrev row01 : List ℕ
 row01 = 0x01 ∷ 0x00 ∷ 0x00 ∷ 0x03 ∷ 0x01 ∷ []
-
--- a text of 2^n calls cat(#0,@0), the last with another name
-unfoldable pub big : ℕ → String → List ℕ
-big zero last = text "cat(" ++ text last ++ text ",@0)"
-big (suc n) last = text "cat(" ++ big n "#0" ++ text "," ++ big n last ++ text ")"
-
--- the list that gives `#0` and `#1` values of these lengths
-unfoldable pub values : ℕ → ℕ → List ℕ
-unfolding recordOf
-values a b = recordOf 0x0200 (replicate a 0x41) ++ recordOf 0x0201 (replicate b 0x41)
-
-unfoldable pub lengthOf : Prepared → ℕ
-lengthOf (made bytes) = length bytes
-lengthOf (stopped n p) = 0
 
 module _ (cipher : Cipher) where
   -- 21 before reading, 20 before 27, 27 before 25
@@ -102,17 +85,3 @@ module _ (cipher : Cipher) where
   pub text-bound : (s list : List ℕ) → length s ≡ 4096 → preparedOf cipher s list ≡ afterRead cipher s list (readText s)
   unfolding preparedOf pick
   text-bound s list e = rw e
-
-  -- both sides of 16,384 bytes: fifteen times 1,010 bytes and once 966 or 967 of them
-  pub image-bound :
-      (lengthOf (preparedOf cipher (big 4 "#1") (values 1010 966)) ≡ 16384)
-      × (preparedOf cipher (big 4 "#1") (values 1010 967) ≡ stopped 26 0)
-  unfolding big values lengthOf text prepares
-  image-bound = (refl, refl)
-
-  -- a dropped side never counts for 26
-  pub dropped-side :
-      (preparedOf cipher (text "when('00'," ++ big 4 "#1" ++ text ",$0)") (values 1024 1024) ≡ made (0x01 ∷ 0x00 ∷ 0x02 ∷ 0x00 ∷ 0x00 ∷ []))
-      × (preparedOf cipher (text "when('02'," ++ big 4 "#1" ++ text ",$0)") (values 1024 1024) ≡ stopped 26 0)
-  unfolding big values text prepares
-  dropped-side = (refl, refl)
