@@ -2,4 +2,5 @@
 pub mod Exactly
 pub mod Values
 pub mod Fuel
+pub mod Seek
 pub mod Examples

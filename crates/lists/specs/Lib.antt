@@ -2,3 +2,4 @@
 pub mod Entries
 pub mod Given
 pub mod Good
+pub mod Seek

@@ -30,8 +30,7 @@ module _ (C : Calls) (K : Binding) where
       × ((x y z w : Value) → a ≡ literal x → b ≡ literal y → c ≡ literal z → d ≡ literal w → NoValue (C .ofFour k x y z w))
   Folded (when c a b) = Folded c × Folded a × Folded b × (c ≡ literal (0x01 ∷ []) → ⊥) × (c ≡ literal (0x00 ∷ []) → ⊥)
 
-  -- what a tree may become: a constant only if it has that value with only `#` bound; a call that stays keeps its kind and its folded
-  -- arguments in their places, so that nothing is regrouped; a `when` may become the side that its folded condition chooses
+  -- what a tree may become: a constant that it has with only `#` bound, a chosen side, or itself with its arguments in their places: nothing is regrouped
   pub data Becomes : Tree → Tree → Type 0 where
     constant : (t : Tree) (v : Value) → mean C K idle t ≡ value v → Becomes t (literal v)
     bound-stays : (n : ℕ) → K n ≡ nothing → Becomes (bound n) (bound n)

@@ -60,7 +60,7 @@ then-front (front k p) f e = (k, p, refl, e)
 then-front cut f e = absurd (no-item e)
 
 -- a payload filled exactly
-fills : (used : ℕ) (p : List ℕ) (a t : Tree) (n : ℕ) → filled used p a ≡ item t n → (used ≡ length p) × (a ≡ t) × (4 + length p ≡ n)
+pub fills : (used : ℕ) (p : List ℕ) (a t : Tree) (n : ℕ) → filled used p a ≡ item t n → (used ≡ length p) × (a ≡ t) × (4 + length p ≡ n)
 unfolding filled
 fills used p a t n e =
     let h : (eqb used (length p) ≡ true) × (item a (4 + length p) ≡ item t n) = pick-item (eqb used (length p)) (item a (4 + length p)) e in

@@ -42,8 +42,7 @@ pub images :
 unfolding imageOf imageWith wholeOf decode thenFront frontOf thenItem filled constantIn digitIn oneIn twoIn threeIn fourIn byShape shapeOf callShape argumentsOf argumentsIn ofRow calls plain cipher nodes pick
 images = (refl, refl, refl, refl, refl, refl, refl)
 
--- what is none: shorter than a head; head and bytes disagree; a kind unknown or `#`; a digit too high; a name's payload not one byte;
--- arguments too few or too many; a payload not filled exactly
+-- what is none: cut, or longer than its head says; a wrong kind, digit or name; arguments too few or too many; a payload not filled
 pub no-images :
     (imageOf [] ≡ noImage)
     × (imageOf (0x00 ∷ 0x00 ∷ 0x01 ∷ []) ≡ noImage)

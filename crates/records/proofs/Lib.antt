@@ -4,4 +4,5 @@ pub mod There
 pub mod Back
 pub mod Bytes
 pub mod Sizes
+pub mod Descend
 pub mod Examples
