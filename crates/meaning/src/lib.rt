@@ -1,0 +1,1 @@
+// What a recipe means, and folding. No code.

@@ -1,0 +1,5 @@
+-- Preparing and running as wholes.
+pub mod Outcome
+pub mod Prepare
+pub mod Run
+pub mod Keeps

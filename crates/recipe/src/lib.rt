@@ -1,0 +1,1 @@
+// Preparing and running as wholes, and what joins them. No code.

@@ -1,0 +1,2 @@
+-- Long worked examples of preparing.
+pub mod Long

@@ -1,0 +1,1 @@
+// Long worked examples of preparing. No code.

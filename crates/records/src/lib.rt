@@ -1,0 +1,1 @@
+// Recipes as records of an image. No code.

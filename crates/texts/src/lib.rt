@@ -1,0 +1,1 @@
+// Recipes as text: definitions in specs/, their laws in proofs/.

@@ -1,0 +1,2 @@
+-- Closed equations that take seconds.
+pub mod Long

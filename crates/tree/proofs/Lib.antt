@@ -1,0 +1,4 @@
+-- Laws of trees, and the table of calls at each kind.
+pub mod Bytes
+pub mod Table
+pub mod Examples
