@@ -10,7 +10,7 @@ use lib.ListN.{replicate}
 use Rattle.common.specs.Choice.{pick}
 use Rattle.common.specs.Places.{tab}
 use Rattle.tree.specs.Tree.{Tree}
-use Rattle.tree.specs.Tree.Tree.{literal, bound, row, run, one, two, three, four, when}
+use Rattle.tree.specs.Tree.Tree.{literal, bound, row, run, one, two, three, when}
 use Rattle.tree.specs.Calls.{calls, plain, cipher}
 use Rattle.tree.specs.Bounds.{ofRow}
 use Rattle.tree.specs.Reading.{Read}
@@ -18,34 +18,7 @@ use Rattle.tree.specs.Reading.Read.{got, wrong}
 use Rattle.texts.specs.Spelling.{spell, pairs, hexDigit, nameOf, nameBy, rowIn, suitePart, listed, width, headWidth, nameWidth}
 use Rattle.texts.specs.Unbound.{Place, later, first, unboundAt, unboundIn}
 use Rattle.texts.specs.Unbound.Place.{at, nowhere}
-use Rattle.texts.specs.Reading.{
-  readText,
-  takeText,
-  endAt,
-  exprAt,
-  byStart,
-  callOn,
-  namedAt,
-  suiteAt,
-  listAt,
-  argsAt,
-  startOf,
-  callOf,
-  callIn,
-  same,
-  nameAt,
-  literalAt,
-  literalOf,
-  pairAt,
-  hexValue,
-  ifDue,
-  dueAt,
-  runOf,
-  isHex,
-  isLetter,
-  between,
-  thenPart,
-}
+use Rattle.texts.specs.Reading.{readText, takeText, endAt, exprAt, byStart, callOn, namedAt, suiteAt, listAt, argsAt, startOf, callOf, callIn, same, nameAt, literalAt, literalOf, pairAt, hexValue, ifDue, dueAt, runOf, isHex, isLetter, between, thenPart}
 
 -- the bytes of a text
 unfoldable pub text : String → List ℕ

@@ -1,23 +1,22 @@
 -- Reading a literal and a name where they are spelt.
 use mathlib.Core.Bool.{Bool, true, false}
-use mathlib.Core.List.{List, [], _∷_, _++_, append-assoc}
+use mathlib.Core.List.{List, [], _∷_, _++_}
 use mathlib.Core.Path.{_≡_, refl, sym, ap, ap₂, _∙_}
-use Prim.Native.Nat.{ℕ, zero, suc, _+_, _-_, _*_, _/_, _%_, _≤_, _<_}
+use Prim.Native.Nat.{ℕ, suc, _+_, _-_, _*_, _/_, _%_, _≤_, _<_}
 use native.Mathlib.Omega.{arith}
-use lib.Dec.{eqb, leb, ltb}
-use lib.ListN.{length, take, drop, getD}
-use borrow.Author.Tests.{le-leb, lt-leb, leb-true, leb-false, eq-eqb, eqb-true, ltb-true, ltb-false}
+use lib.Dec.{leb, ltb}
+use lib.ListN.{length, drop, getD}
+use borrow.Author.Tests.{le-leb, lt-leb, eq-eqb, ltb-true, ltb-false}
 use Rattle.common.specs.Choice.{pick}
 use Rattle.common.specs.Places.{tab}
 use Rattle.common.proofs.Places.{tab-ext}
 use Rattle.tree.specs.Tree.{Tree}
-use Rattle.tree.specs.Tree.Tree.{literal, bound, row, run}
+use Rattle.tree.specs.Tree.Tree.{literal}
 use Rattle.tree.specs.Bounds.{Bytes}
-use Rattle.texts.specs.Spelling.{hexDigit, pairs, spell, width}
-use Rattle.texts.specs.Reading.{Part, Due, between, isHex, runOf, dueAt, ifDue, hexValue, pairAt, literalOf, literalAt, nameAt}
+use Rattle.texts.specs.Spelling.{hexDigit, pairs}
+use Rattle.texts.specs.Reading.{Part, between, isHex, runOf, ifDue, hexValue, pairAt, literalOf, literalAt, nameAt}
 use Rattle.texts.specs.Reading.Part.{part, bad}
-use Rattle.texts.specs.Reading.Due.{stands, missing}
-use Rattle.texts.proofs.Standing.{stands-in, stands-at, stands-next, stands-after, stands-here, between-true, due-stands, Pass, run-is}
+use Rattle.texts.proofs.Standing.{stands-at, stands-next, stands-after, between-true, due-stands, Pass, run-is}
 use Rattle.texts.proofs.Width.{length-pairs}
 
 -- a digit below 16 is spelt as one byte, which has its value

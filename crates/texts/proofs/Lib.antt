@@ -14,3 +14,4 @@ pub mod Offsets
 pub mod Ways
 pub mod Packed
 pub mod Allowed
+pub mod Blocked

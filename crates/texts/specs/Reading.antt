@@ -1,6 +1,6 @@
 -- Reading a text left to right to a tree, or to a number and its place (document 01, sections 5 and 7).
 use mathlib.Core.Bool.{Bool, true, false}
-use mathlib.Core.List.{List, [], _∷_, _++_}
+use mathlib.Core.List.{List, [], _∷_}
 use Prim.Native.Nat.{ℕ, zero, suc, _+_, _-_, _*_, _/_, _%_}
 use lib.Dec.{eqb, leb}
 use lib.ListN.{length, take, drop, getD}
