@@ -306,6 +306,15 @@ spelling :
 unfolding text spelt
 spelling = (refl, refl, refl, refl, refl, refl, refl, refl)
 
+-- the texts of P8 to P11
+points :
+    (reads (text "cat('41',#0)") ≡ got (two 0x0010 (literal (0x41 ∷ [])) (bound 0)))
+    × (reads (text "cat(cat('41',#0),@1)") ≡ got (two 0x0010 (two 0x0010 (literal (0x41 ∷ [])) (bound 0)) (run 1)))
+    × (reads (text "xor('41','4142')") ≡ got (two 0x0011 (literal (0x41 ∷ [])) (literal (0x41 ∷ 0x42 ∷ []))))
+    × (reads (text "when('01',$0,xor('41','4142'))") ≡ got (when (literal (1 ∷ [])) (row 0) (two 0x0011 (literal (0x41 ∷ [])) (literal (0x41 ∷ 0x42 ∷ [])))))
+unfolding text reads
+points = (refl, refl, refl, refl)
+
 -- #0 alone has a value
 zeroth : ℕ → Bool
 zeroth n = eqb n 0
