@@ -20,7 +20,7 @@ use Rattle.texts.proofs.Standing.{stands-at, stands-next, stands-after,
 use Rattle.texts.proofs.Width.{length-pairs}
 
 -- a digit below 16 is spelt as one byte, which has its value
-value-digit : (d : ℕ) → d < 16 → hexValue (hexDigit d) ≡ d
+pub value-digit : (d : ℕ) → d < 16 → hexValue (hexDigit d) ≡ d
 unfolding hexValue hexDigit pick
 value-digit d h = go (ltb d 10) refl
   where
@@ -48,7 +48,7 @@ hex-digit d h = go (ltb d 10) refl
         let l : 10 ≤ d = ltb-false d 10 e in
         up (between 48 57 (55 + d)) (between 65 70 (55 + d)) (between-true 65 70 (55 + d) (omega arith) (omega arith))
 
-pairs-pass : (v : List ℕ) → Bytes v → Pass isHex (pairs v)
+pub pairs-pass : (v : List ℕ) → Bytes v → Pass isHex (pairs v)
 unfolding Pass pairs
 pairs-pass [] h = tt
 pairs-pass (x ∷ v) h = (hex-digit (x / 16) (omega (arith, h 0)), (hex-digit (x % 16) (omega arith), pairs-pass v (λ i. h (suc i))))
@@ -91,7 +91,7 @@ literal-of s p n k v r h ek e =
     (ap₂ (λ (w : List ℕ) (q : ℕ). part (literal w) q (n + 1)) value place)
     )
 
-quote-ends : (r : List ℕ) → runOf isHex (39 ∷ r) ≡ 0
+pub quote-ends : (r : List ℕ) → runOf isHex (39 ∷ r) ≡ 0
 unfolding runOf isHex between pick
 quote-ends r = refl
 

@@ -15,3 +15,4 @@ pub mod Ways
 pub mod Packed
 pub mod Allowed
 pub mod Blocked
+pub mod Injective

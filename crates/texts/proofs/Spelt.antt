@@ -142,7 +142,7 @@ start-letter x h =
     rw (ne-eqb x 39 (omega arith), ne-eqb x 35 (omega arith), ne-eqb x 36 (omega arith), ne-eqb x 64 (omega arith), h)
 
 -- letters end at a `.` or a `(`
-name-ends : (b : Bool) (d : ℕ) (r : List ℕ) → runOf isLetter (suitePart b d ++ (40 ∷ r)) ≡ 0
+pub name-ends : (b : Bool) (d : ℕ) (r : List ℕ) → runOf isLetter (suitePart b d ++ (40 ∷ r)) ≡ 0
 unfolding runOf isLetter between pick suitePart
 name-ends false d r = refl
 name-ends true d r = refl
@@ -167,7 +167,7 @@ pub name-is : (k : ℕ) (r : Call) → rowIn calls k ≡ known r → nameOf k �
 unfolding nameOf nameBy
 name-is k r e = rw e
 
-listed-opens : (l : List Tree) (rest : List ℕ) → 0 < length l → (y : List ℕ) × (listed 40 (spells l) ++ rest ≡ 40 ∷ y)
+pub listed-opens : (l : List Tree) (rest : List ℕ) → 0 < length l → (y : List ℕ) × (listed 40 (spells l) ++ rest ≡ 40 ∷ y)
 unfolding listed spells
 listed-opens [] rest h = absurd (omega arith)
 listed-opens (a ∷ l) rest h = (spell a ++ listed 44 (spells l) ++ rest, refl)
@@ -200,15 +200,15 @@ module _ (d : ℕ) (s : List ℕ) (k : ℕ) (l : List Tree) (t : Tree) (p n : �
       let R = row-of k c h in
       row-fate (R .call) (R .is) (R .good) (R .kind) (R .count ∙ sym len) room
 
-when-count : argumentsOf whenKind ≡ 3
+pub when-count : argumentsOf whenKind ≡ 3
 unfolding argumentsOf argumentsIn calls plain cipher ofRow pick
 when-count = refl
 
-three-call : (k : ℕ) (a b c : Tree) → (k ≡ whenKind → ⊥) → (q m : ℕ) → callOf k (a ∷ (b ∷ (c ∷ []))) q m ≡ part (three k a b c) q m
+pub three-call : (k : ℕ) (a b c : Tree) → (k ≡ whenKind → ⊥) → (q m : ℕ) → callOf k (a ∷ (b ∷ (c ∷ []))) q m ≡ part (three k a b c) q m
 unfolding callOf pick
 three-call k a b c h q m = rw (ne-eqb k whenKind h)
 
-when-call : (a b c : Tree) (q m : ℕ) → callOf whenKind (a ∷ (b ∷ (c ∷ []))) q m ≡ part (when a b c) q m
+pub when-call : (a b c : Tree) (q m : ℕ) → callOf whenKind (a ∷ (b ∷ (c ∷ []))) q m ≡ part (when a b c) q m
 unfolding callOf pick
 when-call a b c q m = refl
 
