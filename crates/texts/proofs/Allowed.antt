@@ -7,7 +7,7 @@ use native.Mathlib.Omega.{arith}
 use lib.Dec.{eqb, leb}
 use lib.ListN.{length, take, drop, getD, length-drop, length-append, take-append-drop}
 use lib.Seq.{drop-drop, take-at}
-use borrow.Author.Tests.{leb-true, leb-false, eqb-true, le-leb}
+use borrow.Author.Tests.{leb-true, leb-false, eqb-true}
 use Rattle.common.specs.Choice.{pick}
 use Rattle.common.specs.Places.{tab}
 use Rattle.tree.specs.Tree.{Tree}
@@ -18,35 +18,7 @@ use Rattle.tree.specs.Reading.{Read}
 use Rattle.tree.specs.Reading.Read.{got, wrong}
 use Rattle.texts.specs.Spelling.{Found, hexDigit, pairs, rowIn, suitePart, nameOf, listed, spell}
 use Rattle.texts.specs.Spelling.Found.{known, unknown}
-use Rattle.texts.specs.Reading.{
-  Part,
-  Due,
-  Start,
-  thenPart,
-  between,
-  isLetter,
-  isHex,
-  runOf,
-  dueAt,
-  ifDue,
-  hexValue,
-  pairAt,
-  literalOf,
-  literalAt,
-  nameAt,
-  callIn,
-  callOf,
-  startOf,
-  argsAt,
-  listAt,
-  suiteAt,
-  namedAt,
-  callOn,
-  byStart,
-  exprAt,
-  endAt,
-  readText,
-}
+use Rattle.texts.specs.Reading.{Part, thenPart, between, isLetter, isHex, runOf, dueAt, ifDue, hexValue, pairAt, literalOf, literalAt, nameAt, callIn, callOf, startOf, argsAt, listAt, suiteAt, namedAt, callOn, byStart, exprAt, endAt, readText}
 use Rattle.texts.specs.Reading.Part.{part, bad}
 use Rattle.texts.specs.Reading.Due.{stands, missing}
 use Rattle.texts.specs.Reading.Start.{quote, hash, dollar, sign, letter, other}
@@ -55,14 +27,14 @@ use Rattle.texts.proofs.Table.{Good, Kinds, all-good, by-letters, argum
 use Rattle.texts.proofs.Spelt.{spells, Each, name-is}
 use Rattle.texts.proofs.LeavesBack.{Back, Digit, digit-is}
 use Rattle.texts.proofs.Back.{Sub, Made, call-made, args-back, byte-stands, expr-back}
-use Rattle.texts.proofs.Ways.{Taken, expr-taken}
+use Rattle.texts.proofs.Ways.{expr-taken}
 use Rattle.texts.proofs.Numbers.{Outcome, outcome}
 use Rattle.texts.proofs.Numbers.Outcome.{reads, refuses}
 
-same-bad : {A : Type 0} {k w j u : ℕ} → _≡_ {A = Part A} (bad k w) (bad j u) → (k ≡ j) × (w ≡ u)
+pub same-bad : {A : Type 0} {k w j u : ℕ} → _≡_ {A = Part A} (bad k w) (bad j u) → (k ≡ j) × (w ≡ u)
 same-bad e = (cc, cc)
 
-part-bad : {A : Type 0} {a : A} {q m k w : ℕ} → part a q m ≡ bad k w → ⊥
+pub part-bad : {A : Type 0} {a : A} {q m k w : ℕ} → part a q m ≡ bad k w → ⊥
 part-bad e = no-part (sym e)
 
 -- the ways to a refusal
@@ -81,7 +53,7 @@ if-bad {A} P s lo hi p x k w h f g e = go (leb (length s) p) (between lo hi (get
         due eb ec = rw (eb, ec)
     go false false eb ec e = there p e refl
 
-then-bad : {A B : Type 0} (P : Type 0) (x : Part A) (f : A → ℕ → ℕ → Part B) (k w : ℕ) → (x ≡ bad k w → P) → ((a : A) (q m : ℕ) → x ≡ part a q m → f a q m ≡ bad k w → P) → thenPart x f ≡ bad k w → P
+pub then-bad : {A B : Type 0} (P : Type 0) (x : Part A) (f : A → ℕ → ℕ → Part B) (k w : ℕ) → (x ≡ bad k w → P) → ((a : A) (q m : ℕ) → x ≡ part a q m → f a q m ≡ bad k w → P) → thenPart x f ≡ bad k w → P
 unfolding thenPart
 then-bad P (part a q m) f k w g h e = h a q m refl e
 then-bad P (bad j u) f k w g h e = g (ap₂ bad (same-bad e .0) (same-bad e .1))
@@ -260,7 +232,7 @@ args-on left c d s p w n a q m st A L =
       spelt = ap (λ (l : List ℕ). c ∷ l) (ap (λ (l : List ℕ). spell a ++ l) (L .spelt) ∙ sym (append-assoc (spell a) (L .done) (L .rest)));
     }
 
-call-total : (k : ℕ) (l : List Tree) (u j : ℕ) → 1 ≤ length l → length l ≤ 4 → (t : Tree) × (callOf k l u j ≡ part t u j)
+pub call-total : (k : ℕ) (l : List Tree) (u j : ℕ) → 1 ≤ length l → length l ≤ 4 → (t : Tree) × (callOf k l u j ≡ part t u j)
 unfolding callOf
 call-total k [] u j h g = absurd (omega arith)
 call-total k (a ∷ []) u j h g = (one k a, refl)

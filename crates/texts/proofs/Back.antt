@@ -2,51 +2,29 @@
 use mathlib.Core.Bool.{Bool, true, false}
 use mathlib.Core.List.{List, [], _∷_, _++_, append-assoc, append-nil}
 use mathlib.Core.Path.{_≡_, refl, sym, ap, ap₂, _∙_}
-use Prim.Native.Nat.{ℕ, zero, suc, _+_, _-_, _*_, _≤_, _<_, max}
+use Prim.Native.Nat.{ℕ, zero, suc, _+_, _-_, _≤_, _<_, max}
 use native.Mathlib.Nat.{add-zero}
 use native.Mathlib.Omega.{arith}
 use lib.Dec.{eqb, leb}
 use lib.ListN.{length, take, drop, getD, take-append-drop, drop-of-length-le}
-use lib.Seq.{drop-drop, length-take-le}
+use lib.Seq.{drop-drop}
 use borrow.Author.Tests.{leb-true, leb-false, eqb-true, eqb-false}
 use Rattle.common.specs.Choice.{pick}
 use Rattle.tree.specs.Tree.{Tree}
-use Rattle.tree.specs.Tree.Tree.{literal, bound, row, run, one, two, three, four, when}
+use Rattle.tree.specs.Tree.Tree.{one, two, three, four, when}
 use Rattle.tree.specs.Calls.{Call, calls}
 use Rattle.tree.specs.Bounds.{depth, nodes, argumentsOf, whenKind, Proper, Small, Within}
-use Rattle.tree.specs.Reading.{Read}
 use Rattle.tree.specs.Reading.Read.{got, wrong}
 use Rattle.texts.specs.Spelling.{Found, rowIn, suitePart, nameOf, listed, spell}
 use Rattle.texts.specs.Spelling.Found.{known, unknown}
-use Rattle.texts.specs.Reading.{
-  Part,
-  Due,
-  Start,
-  thenPart,
-  isLetter,
-  runOf,
-  dueAt,
-  ifDue,
-  callIn,
-  callOf,
-  startOf,
-  argsAt,
-  listAt,
-  suiteAt,
-  namedAt,
-  callOn,
-  byStart,
-  exprAt,
-  endAt,
-  readText,
-}
+use Rattle.texts.specs.Reading.{Part, thenPart, isLetter, runOf, dueAt, ifDue, callIn, callOf, startOf, argsAt, listAt, suiteAt, namedAt, callOn, byStart, exprAt, endAt, readText}
 use Rattle.texts.specs.Reading.Part.{part, bad}
-use Rattle.texts.specs.Reading.Due.{stands, missing}
+use Rattle.texts.specs.Reading.Due.{stands}
 use Rattle.texts.specs.Reading.Start.{quote, hash, dollar, sign, letter, other}
 use Rattle.texts.proofs.Standing.{stands-here, Stood, due-is, if-due, then-part, pick-bad, no-part, run-within}
 use Rattle.texts.proofs.Table.{Good, Kinds, all-good, by-letters, arguments-of, suited-kind, plain-row}
 use Rattle.texts.proofs.Spelt.{spells, total, deepest, Each, max-last, name-is}
-use Rattle.texts.proofs.LeavesBack.{Back, back-as, literal-back, bound-back, row-back, run-back}
+use Rattle.texts.proofs.LeavesBack.{Back, literal-back, bound-back, row-back, run-back}
 
 -- what reading an argument list says
 pub record ArgsBack (d : ℕ) (s : List ℕ) (left c p n : ℕ) (l : List Tree) (q m : ℕ) : Type 0 where

@@ -45,14 +45,6 @@ refused-of s h (refuses n p k l e) = record { number = n; place = p; is = e; one
 pub refused-exactly : (s : List ℕ) → ((t : Tree) → Within t → s ≡ spell t → ⊥) ↔ Refused s
 refused-exactly s = (λ h. refused-of s h (outcome s), λ r t w e. got-wrong (ap readText e ∙ read-spell t w) (r .is))
 
--- no text spells two trees within the bounds
-pub spell-injective : (t u : Tree) → Within t → Within u → spell t ≡ spell u → t ≡ u
-spell-injective t u ht hu e =
-    let a = read-spell t ht in
-    let b = read-spell u hu in
-    let c : got t ≡ got u = sym a ∙ ap readText e ∙ b in
-    cc
-
 -- a text of at most 4,096 bytes is read
 pub take-short : (s : List ℕ) → length s ≤ 4096 → takeText s ≡ readText s
 unfolding takeText pick

@@ -10,7 +10,7 @@ use lib.ListN.{replicate}
 use Rattle.common.specs.Choice.{pick}
 use Rattle.common.specs.Places.{tab}
 use Rattle.tree.specs.Tree.{Tree}
-use Rattle.tree.specs.Tree.Tree.{literal, bound, row, run, one, two, three, four, when}
+use Rattle.tree.specs.Tree.Tree.{literal, bound, row, run, one, two, three, when}
 use Rattle.tree.specs.Calls.{calls, plain, cipher}
 use Rattle.tree.specs.Bounds.{ofRow}
 use Rattle.tree.specs.Reading.{Read}
@@ -18,34 +18,7 @@ use Rattle.tree.specs.Reading.Read.{got, wrong}
 use Rattle.texts.specs.Spelling.{spell, pairs, hexDigit, nameOf, nameBy, rowIn, suitePart, listed, width, headWidth, nameWidth}
 use Rattle.texts.specs.Unbound.{Place, later, first, unboundAt, unboundIn}
 use Rattle.texts.specs.Unbound.Place.{at, nowhere}
-use Rattle.texts.specs.Reading.{
-  readText,
-  takeText,
-  endAt,
-  exprAt,
-  byStart,
-  callOn,
-  namedAt,
-  suiteAt,
-  listAt,
-  argsAt,
-  startOf,
-  callOf,
-  callIn,
-  same,
-  nameAt,
-  literalAt,
-  literalOf,
-  pairAt,
-  hexValue,
-  ifDue,
-  dueAt,
-  runOf,
-  isHex,
-  isLetter,
-  between,
-  thenPart,
-}
+use Rattle.texts.specs.Reading.{readText, takeText, endAt, exprAt, byStart, callOn, namedAt, suiteAt, listAt, argsAt, startOf, callOf, callIn, same, nameAt, literalAt, literalOf, pairAt, hexValue, ifDue, dueAt, runOf, isHex, isLetter, between, thenPart}
 
 -- the bytes of a text
 unfoldable pub text : String → List ℕ
@@ -332,6 +305,15 @@ spelling :
     × (spelt (two 0x01A3 (row 0) (row 1)) ≡ text "mac.3($0,$1)")
 unfolding text spelt
 spelling = (refl, refl, refl, refl, refl, refl, refl, refl)
+
+-- the texts of P8 to P11
+points :
+    (reads (text "cat('41',#0)") ≡ got (two 0x0010 (literal (0x41 ∷ [])) (bound 0)))
+    × (reads (text "cat(cat('41',#0),@1)") ≡ got (two 0x0010 (two 0x0010 (literal (0x41 ∷ [])) (bound 0)) (run 1)))
+    × (reads (text "xor('41','4142')") ≡ got (two 0x0011 (literal (0x41 ∷ [])) (literal (0x41 ∷ 0x42 ∷ []))))
+    × (reads (text "when('01',$0,xor('41','4142'))") ≡ got (when (literal (1 ∷ [])) (row 0) (two 0x0011 (literal (0x41 ∷ [])) (literal (0x41 ∷ 0x42 ∷ [])))))
+unfolding text reads
+points = (refl, refl, refl, refl)
 
 -- #0 alone has a value
 zeroth : ℕ → Bool

@@ -1,27 +1,26 @@
 -- Reading a literal and a name where they are spelt.
 use mathlib.Core.Bool.{Bool, true, false}
-use mathlib.Core.List.{List, [], _∷_, _++_, append-assoc}
+use mathlib.Core.List.{List, [], _∷_, _++_}
 use mathlib.Core.Path.{_≡_, refl, sym, ap, ap₂, _∙_}
-use Prim.Native.Nat.{ℕ, zero, suc, _+_, _-_, _*_, _/_, _%_, _≤_, _<_}
+use Prim.Native.Nat.{ℕ, suc, _+_, _-_, _*_, _/_, _%_, _≤_, _<_}
 use native.Mathlib.Omega.{arith}
-use lib.Dec.{eqb, leb, ltb}
-use lib.ListN.{length, take, drop, getD}
-use borrow.Author.Tests.{le-leb, lt-leb, leb-true, leb-false, eq-eqb, eqb-true, ltb-true, ltb-false}
+use lib.Dec.{leb, ltb}
+use lib.ListN.{length, drop, getD}
+use borrow.Author.Tests.{le-leb, lt-leb, eq-eqb, ltb-true, ltb-false}
 use Rattle.common.specs.Choice.{pick}
 use Rattle.common.specs.Places.{tab}
 use Rattle.common.proofs.Places.{tab-ext}
 use Rattle.tree.specs.Tree.{Tree}
-use Rattle.tree.specs.Tree.Tree.{literal, bound, row, run}
+use Rattle.tree.specs.Tree.Tree.{literal}
 use Rattle.tree.specs.Bounds.{Bytes}
-use Rattle.texts.specs.Spelling.{hexDigit, pairs, spell, width}
-use Rattle.texts.specs.Reading.{Part, Due, between, isHex, runOf, dueAt, ifDue, hexValue, pairAt, literalOf, literalAt, nameAt}
+use Rattle.texts.specs.Spelling.{hexDigit, pairs}
+use Rattle.texts.specs.Reading.{Part, between, isHex, runOf, ifDue, hexValue, pairAt, literalOf, literalAt, nameAt}
 use Rattle.texts.specs.Reading.Part.{part, bad}
-use Rattle.texts.specs.Reading.Due.{stands, missing}
-use Rattle.texts.proofs.Standing.{stands-in, stands-at, stands-next, stands-after, stands-here, between-true, due-stands, Pass, run-is}
+use Rattle.texts.proofs.Standing.{stands-at, stands-next, stands-after, between-true, due-stands, Pass, run-is}
 use Rattle.texts.proofs.Width.{length-pairs}
 
 -- a digit below 16 is spelt as one byte, which has its value
-value-digit : (d : ℕ) → d < 16 → hexValue (hexDigit d) ≡ d
+pub value-digit : (d : ℕ) → d < 16 → hexValue (hexDigit d) ≡ d
 unfolding hexValue hexDigit pick
 value-digit d h = go (ltb d 10) refl
   where
@@ -49,7 +48,7 @@ hex-digit d h = go (ltb d 10) refl
         let l : 10 ≤ d = ltb-false d 10 e in
         up (between 48 57 (55 + d)) (between 65 70 (55 + d)) (between-true 65 70 (55 + d) (omega arith) (omega arith))
 
-pairs-pass : (v : List ℕ) → Bytes v → Pass isHex (pairs v)
+pub pairs-pass : (v : List ℕ) → Bytes v → Pass isHex (pairs v)
 unfolding Pass pairs
 pairs-pass [] h = tt
 pairs-pass (x ∷ v) h = (hex-digit (x / 16) (omega (arith, h 0)), (hex-digit (x % 16) (omega arith), pairs-pass v (λ i. h (suc i))))
@@ -92,7 +91,7 @@ literal-of s p n k v r h ek e =
     (ap₂ (λ (w : List ℕ) (q : ℕ). part (literal w) q (n + 1)) value place)
     )
 
-quote-ends : (r : List ℕ) → runOf isHex (39 ∷ r) ≡ 0
+pub quote-ends : (r : List ℕ) → runOf isHex (39 ∷ r) ≡ 0
 unfolding runOf isHex between pick
 quote-ends r = refl
 

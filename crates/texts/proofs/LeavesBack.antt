@@ -4,12 +4,11 @@ use mathlib.Core.List.{List, [], _∷_, _++_, append-assoc}
 use mathlib.Core.Path.{_≡_, refl, sym, ap, ap₂, _∙_}
 use Prim.Native.Nat.{ℕ, zero, suc, _+_, _-_, _*_, _/_, _%_, _≤_, _<_}
 use native.Mathlib.Nat.{add-zero}
-use native.Mathlib.Numerals.{add-one}
 use native.Mathlib.Omega.{arith}
 use lib.Dec.{eqb, leb, ltb}
-use lib.ListN.{length, take, drop, getD, length-drop, length-take, List·getD-eq-default}
+use lib.ListN.{length, take, drop, getD, List·getD-eq-default}
 use lib.Seq.{getD-take, getD-drop, length-take-le}
-use borrow.Author.Tests.{le-leb, lt-leb, leb-true, leb-false, eq-eqb, eqb-true, lt-ltb, le-ltb, ltb-true, ltb-false}
+use borrow.Author.Tests.{le-leb, lt-leb, leb-true, eqb-true, lt-ltb, le-ltb, ltb-true, ltb-false}
 use Rattle.common.specs.Choice.{pick}
 use Rattle.common.specs.Places.{tab}
 use Rattle.common.proofs.Places.{tab-ext, getD-tab, length-tab}
@@ -17,9 +16,9 @@ use Rattle.tree.specs.Tree.{Tree}
 use Rattle.tree.specs.Tree.Tree.{literal, bound, row, run}
 use Rattle.tree.specs.Bounds.{depth, nodes, Bytes, Proper, Small}
 use Rattle.texts.specs.Spelling.{hexDigit, pairs, spell}
-use Rattle.texts.specs.Reading.{Part, Due, between, isHex, runOf, dueAt, ifDue, hexValue, pairAt, literalOf, literalAt, nameAt}
+use Rattle.texts.specs.Reading.{Part, between, isHex, runOf, dueAt, hexValue, pairAt, literalOf, literalAt, nameAt}
 use Rattle.texts.specs.Reading.Part.{part, bad}
-use Rattle.texts.specs.Reading.Due.{stands, missing}
+use Rattle.texts.specs.Reading.Due.{stands}
 use Rattle.texts.proofs.Standing.{stands-here, between-is, Stood, due-is, if-due, pick-good, Pass, run-pass, run-within}
 
 -- what reading a tree at p says: it is spelt there, up to q, and within the bounds

@@ -14,3 +14,5 @@ pub mod Offsets
 pub mod Ways
 pub mod Packed
 pub mod Allowed
+pub mod Blocked
+pub mod Injective

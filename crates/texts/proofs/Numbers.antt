@@ -1,51 +1,21 @@
 -- The numbers and places that reading gives.
 use mathlib.Core.Bool.{Bool, true, false}
-use mathlib.Core.List.{List, [], _∷_, _++_}
-use mathlib.Core.Path.{_≡_, refl, sym, ap, _∙_}
+use mathlib.Core.List.{List, [], _∷_}
+use mathlib.Core.Path.{_≡_, refl}
 use Prim.Native.Nat.{ℕ, zero, suc, _+_, _-_, _*_, _/_, _%_, _≤_, _<_}
 use native.Mathlib.Omega.{arith}
 use lib.Dec.{eqb, leb}
 use lib.ListN.{length, take, drop, getD, length-drop}
-use borrow.Author.Tests.{leb-true, leb-false}
+use borrow.Author.Tests.{leb-false}
 use Rattle.common.specs.Choice.{pick}
 use Rattle.common.specs.Places.{tab}
 use Rattle.tree.specs.Tree.{Tree}
-use Rattle.tree.specs.Tree.Tree.{literal, bound, row, run, one, two, three, four, when}
+use Rattle.tree.specs.Tree.Tree.{literal, bound, row, run, one, four}
 use Rattle.tree.specs.Calls.{Call, calls}
-use Rattle.tree.specs.Bounds.{whenKind}
-use Rattle.tree.specs.Reading.{Read}
 use Rattle.tree.specs.Reading.Read.{got, wrong}
 use Rattle.texts.specs.Spelling.{Found}
 use Rattle.texts.specs.Spelling.Found.{known, unknown}
-use Rattle.texts.specs.Reading.{
-  Part,
-  Due,
-  Start,
-  thenPart,
-  between,
-  isLetter,
-  isHex,
-  runOf,
-  dueAt,
-  ifDue,
-  pairAt,
-  literalOf,
-  literalAt,
-  nameAt,
-  callIn,
-  callOf,
-  startOf,
-  argsAt,
-  listAt,
-  suiteAt,
-  namedAt,
-  callOn,
-  byStart,
-  exprAt,
-  endAt,
-  readText,
-  ReadingNumber,
-}
+use Rattle.texts.specs.Reading.{Part, Due, Start, thenPart, between, isLetter, isHex, runOf, dueAt, ifDue, pairAt, literalOf, literalAt, nameAt, callIn, callOf, startOf, argsAt, listAt, suiteAt, namedAt, callOn, byStart, exprAt, endAt, readText, ReadingNumber}
 use Rattle.texts.specs.Reading.ReadingNumber.{syntax, deep, many, long}
 use Rattle.texts.specs.Reading.Part.{part, bad}
 use Rattle.texts.specs.Reading.Due.{stands, missing}

@@ -1,17 +1,17 @@
 -- The row that letters name is the row that their number names.
 use mathlib.Core.Bool.{Bool, true, false}
-use mathlib.Core.List.{List, [], _∷_, _++_, reverse, reverseAux, reverse-reverse, reverseAux-append}
+use mathlib.Core.List.{List, [], _∷_, _++_, reverse, reverseAux, reverse-reverse}
 use mathlib.Core.Path.{_≡_, refl, sym, ap, ap₂, _∙_}
-use Prim.Native.Nat.{ℕ, zero, suc, _+_, _-_, _*_, _^_, _≤_, _<_}
+use Prim.Native.Nat.{ℕ, suc, _+_, _*_, _^_, _<_}
 use native.Mathlib.Omega.{arith}
 use lib.Dec.{eqb, leb}
 use lib.ListN.{length, length-reverse}
-use borrow.Author.Tests.{eq-eqb, ne-eqb, eqb-true, leb-true}
+use borrow.Author.Tests.{eq-eqb, ne-eqb, leb-true}
 use Rattle.common.specs.Choice.{pick}
 use Rattle.tree.specs.Calls.{Call, calls, plain, cipher}
 use Rattle.texts.specs.Spelling.{Found}
 use Rattle.texts.specs.Spelling.Found.{known, unknown}
-use Rattle.texts.specs.Reading.{isLetter, between, same, callIn}
+use Rattle.texts.specs.Reading.{isLetter, same, callIn}
 use Rattle.texts.specs.Packed.{packed, callBy}
 use Rattle.texts.proofs.Standing.{Pass, between-is}
 use Rattle.texts.proofs.Table.{Good, All, all-good, by-letters, same-is}

@@ -1,52 +1,29 @@
 -- What is spelt within the bounds is read back.
 use mathlib.Core.Bool.{Bool, true, false}
 use mathlib.Core.List.{List, [], _∷_, _++_, append-assoc, append-nil}
-use mathlib.Core.Path.{_≡_, refl, sym, ap, ap₂, _∙_}
+use mathlib.Core.Path.{_≡_, refl, sym, ap, _∙_}
 use Prim.Native.Nat.{ℕ, zero, suc, _+_, _-_, _*_, _≤_, _<_, max}
 use native.Mathlib.Nat.{add-zero}
 use native.Mathlib.Omega.{arith}
-use lib.Dec.{eqb, leb}
+use lib.Dec.{leb}
 use lib.ListN.{length, take, drop, getD, length-append}
 use lib.Seq.{take-append-seam}
-use borrow.Author.Tests.{le-leb, lt-leb, leb-true, leb-false, eq-eqb, ne-eqb}
+use borrow.Author.Tests.{le-leb, lt-leb, leb-true, leb-false, ne-eqb}
 use Rattle.common.specs.Choice.{pick}
 use Rattle.tree.specs.Tree.{Tree}
 use Rattle.tree.specs.Tree.Tree.{literal, bound, row, run, one, two, three, four, when}
 use Rattle.tree.specs.Calls.{Call, calls, plain, cipher}
-use Rattle.tree.specs.Bounds.{depth, nodes, ofRow, argumentsIn, argumentsOf, whenKind, Bytes, Proper, Small, Within}
+use Rattle.tree.specs.Bounds.{depth, nodes, ofRow, argumentsIn, argumentsOf, whenKind, Proper, Small, Within}
 use Rattle.tree.specs.Reading.{Read}
 use Rattle.tree.specs.Reading.Read.{got, wrong}
-use Rattle.texts.specs.Spelling.{Found, pairs, rowIn, suitePart, nameBy, nameOf, listed, spell, width}
-use Rattle.texts.specs.Spelling.Found.{known, unknown}
-use Rattle.texts.specs.Reading.{
-  Part,
-  Due,
-  Start,
-  thenPart,
-  between,
-  isLetter,
-  runOf,
-  dueAt,
-  ifDue,
-  callIn,
-  callOf,
-  startOf,
-  argsAt,
-  listAt,
-  suiteAt,
-  namedAt,
-  callOn,
-  byStart,
-  exprAt,
-  endAt,
-  readText,
-  takeText,
-}
+use Rattle.texts.specs.Spelling.{pairs, rowIn, suitePart, nameBy, nameOf, listed, spell, width}
+use Rattle.texts.specs.Spelling.Found.{known}
+use Rattle.texts.specs.Reading.{Part, thenPart, between, isLetter, runOf, ifDue, callIn, callOf, startOf, argsAt, listAt, suiteAt, namedAt, callOn, byStart, exprAt, endAt, readText, takeText}
 use Rattle.texts.specs.Reading.Part.{part, bad}
-use Rattle.texts.specs.Reading.Due.{stands, missing}
-use Rattle.texts.specs.Reading.Start.{quote, hash, dollar, sign, letter, other}
+use Rattle.texts.specs.Reading.Due.{stands}
+use Rattle.texts.specs.Reading.Start.{letter}
 use Rattle.texts.proofs.Standing.{stands-in, stands-at, stands-next, stands-after, between-is, due-stands, Pass, run-is}
-use Rattle.texts.proofs.Table.{Good, Row, row-of, plain-kind, cipher-kind}
+use Rattle.texts.proofs.Table.{Good, row-of, plain-kind, cipher-kind}
 use Rattle.texts.proofs.Width.{length-spell}
 use Rattle.texts.proofs.Leaves.{literal-read, name-read}
 
@@ -165,7 +142,7 @@ start-letter x h =
     rw (ne-eqb x 39 (omega arith), ne-eqb x 35 (omega arith), ne-eqb x 36 (omega arith), ne-eqb x 64 (omega arith), h)
 
 -- letters end at a `.` or a `(`
-name-ends : (b : Bool) (d : ℕ) (r : List ℕ) → runOf isLetter (suitePart b d ++ (40 ∷ r)) ≡ 0
+pub name-ends : (b : Bool) (d : ℕ) (r : List ℕ) → runOf isLetter (suitePart b d ++ (40 ∷ r)) ≡ 0
 unfolding runOf isLetter between pick suitePart
 name-ends false d r = refl
 name-ends true d r = refl
@@ -190,7 +167,7 @@ pub name-is : (k : ℕ) (r : Call) → rowIn calls k ≡ known r → nameOf k �
 unfolding nameOf nameBy
 name-is k r e = rw e
 
-listed-opens : (l : List Tree) (rest : List ℕ) → 0 < length l → (y : List ℕ) × (listed 40 (spells l) ++ rest ≡ 40 ∷ y)
+pub listed-opens : (l : List Tree) (rest : List ℕ) → 0 < length l → (y : List ℕ) × (listed 40 (spells l) ++ rest ≡ 40 ∷ y)
 unfolding listed spells
 listed-opens [] rest h = absurd (omega arith)
 listed-opens (a ∷ l) rest h = (spell a ++ listed 44 (spells l) ++ rest, refl)
@@ -223,15 +200,15 @@ module _ (d : ℕ) (s : List ℕ) (k : ℕ) (l : List Tree) (t : Tree) (p n : �
       let R = row-of k c h in
       row-fate (R .call) (R .is) (R .good) (R .kind) (R .count ∙ sym len) room
 
-when-count : argumentsOf whenKind ≡ 3
+pub when-count : argumentsOf whenKind ≡ 3
 unfolding argumentsOf argumentsIn calls plain cipher ofRow pick
 when-count = refl
 
-three-call : (k : ℕ) (a b c : Tree) → (k ≡ whenKind → ⊥) → (q m : ℕ) → callOf k (a ∷ (b ∷ (c ∷ []))) q m ≡ part (three k a b c) q m
+pub three-call : (k : ℕ) (a b c : Tree) → (k ≡ whenKind → ⊥) → (q m : ℕ) → callOf k (a ∷ (b ∷ (c ∷ []))) q m ≡ part (three k a b c) q m
 unfolding callOf pick
 three-call k a b c h q m = rw (ne-eqb k whenKind h)
 
-when-call : (a b c : Tree) (q m : ℕ) → callOf whenKind (a ∷ (b ∷ (c ∷ []))) q m ≡ part (when a b c) q m
+pub when-call : (a b c : Tree) (q m : ℕ) → callOf whenKind (a ∷ (b ∷ (c ∷ []))) q m ≡ part (when a b c) q m
 unfolding callOf pick
 when-call a b c q m = refl
 

@@ -1,8 +1,8 @@
 -- The table of calls, read both ways: by letters and by kind.
 use mathlib.Core.Bool.{Bool, true, false}
-use mathlib.Core.List.{List, [], _∷_, _++_}
+use mathlib.Core.List.{List, [], _∷_}
 use mathlib.Core.Path.{_≡_, refl, sym, ap, ap₂, _∙_}
-use Prim.Native.Nat.{ℕ, zero, suc, _+_, _-_, _*_, _≤_, _<_}
+use Prim.Native.Nat.{ℕ, zero, suc, _+_, _≤_, _<_}
 use native.Mathlib.Omega.{arith}
 use lib.Dec.{eqb, leb, ltb}
 use lib.ListN.{length}
@@ -10,7 +10,7 @@ use borrow.Author.Tests.{eqb-true, ltb-true, leb-true}
 use Rattle.common.specs.Choice.{pick}
 use Rattle.tree.specs.Calls.{Call, calls, plain, cipher}
 use Rattle.tree.specs.Bounds.{ofRow, argumentsIn, argumentsOf}
-use Rattle.texts.specs.Spelling.{Found, rowIn}
+use Rattle.texts.specs.Spelling.{rowIn}
 use Rattle.texts.specs.Spelling.Found.{known, unknown}
 use Rattle.texts.specs.Reading.{isLetter, between, same, callIn}
 use Rattle.texts.proofs.Standing.{Pass, pick-both, between-is}

@@ -4,24 +4,24 @@ use mathlib.Core.List.{List, [], _∷_, _++_, append-assoc, append-nil}
 use mathlib.Core.Logic.{_↔_}
 use mathlib.Core.Path.{_≡_, refl, sym, ap, ap₂, _∙_}
 use Prim.Native.Nat.{ℕ, zero, suc, _+_, _-_, _*_, _/_, _%_, _≤_, _<_}
-use native.Mathlib.Nat.{add-zero, zero-add}
+use native.Mathlib.Nat.{zero-add}
 use native.Mathlib.Omega.{arith}
-use lib.Dec.{eqb, leb, ltb}
-use lib.ListN.{length, drop, getD}
-use borrow.Author.Tests.{eq-eqb, ne-eqb, eqb-true, eqb-false}
+use lib.Dec.{eqb, ltb}
+use lib.ListN.{length, getD}
+use borrow.Author.Tests.{ne-eqb, eqb-true, eqb-false}
 use Rattle.common.specs.Choice.{pick}
 use Rattle.tree.specs.Tree.{Tree}
 use Rattle.tree.specs.Tree.Tree.{literal, bound, row, run, one, two, three, four, when}
-use Rattle.tree.specs.Calls.{Call, calls}
+use Rattle.tree.specs.Calls.{calls}
 use Rattle.tree.specs.Bounds.{whenKind, Proper}
 use Rattle.texts.specs.Spelling.{Found, hexDigit, pairs, rowIn, suitePart, nameBy, nameOf, listed, spell, headWidth, width}
 use Rattle.texts.specs.Spelling.Found.{known, unknown}
-use Rattle.texts.specs.Reading.{isLetter, between}
+use Rattle.texts.specs.Reading.{isLetter}
 use Rattle.texts.specs.Unbound.{Place, later, first, unboundAt, AllBound, unboundIn}
 use Rattle.texts.specs.Unbound.Place.{at, nowhere}
 use Rattle.texts.proofs.Standing.{Pass, between-is}
 use Rattle.texts.proofs.Table.{Good, all-good, by-kind}
-use Rattle.texts.proofs.Width.{length-pairs, length-name, length-spell}
+use Rattle.texts.proofs.Width.{length-name, length-spell}
 use Rattle.texts.proofs.Spelt.{spells}
 
 later-zero : (x : Place) → later 0 x ≡ x

@@ -1,49 +1,24 @@
 -- The ways through reading, one law for each, and how far each goes: what code is proved by.
 use mathlib.Core.Bool.{Bool, true, false}
-use mathlib.Core.List.{List, [], _∷_, _++_}
-use mathlib.Core.Path.{_≡_, refl, sym, ap, ap₂, _∙_}
-use Prim.Native.Nat.{ℕ, zero, suc, _+_, _-_, _*_, _/_, _%_, _≤_, _<_}
+use mathlib.Core.List.{List, [], _∷_}
+use mathlib.Core.Path.{_≡_, sym, ap, _∙_}
+use Prim.Native.Nat.{ℕ, suc, _+_, _-_, _≤_, _<_}
 use native.Mathlib.Nat.{add-zero}
 use native.Mathlib.Omega.{arith}
-use lib.Dec.{eqb, leb}
-use lib.ListN.{length, take, drop, getD, length-drop, length-append, drop-of-length-le}
+use lib.ListN.{length, drop, getD, length-drop, length-append, drop-of-length-le}
 use lib.Seq.{getD-drop}
 use borrow.Author.Tests.{le-leb, lt-leb, eq-eqb, ne-eqb}
 use Rattle.common.specs.Choice.{pick}
 use Rattle.tree.specs.Tree.{Tree}
-use Rattle.tree.specs.Calls.{Call, calls, plain, cipher}
-use Rattle.tree.specs.Bounds.{depth, nodes}
-use Rattle.texts.specs.Spelling.{Found, spell, width, listed}
-use Rattle.texts.specs.Spelling.Found.{known, unknown}
-use Rattle.texts.specs.Reading.{
-  Part,
-  Due,
-  Start,
-  thenPart,
-  between,
-  isLetter,
-  runOf,
-  dueAt,
-  ifDue,
-  same,
-  callIn,
-  callOf,
-  startOf,
-  argsAt,
-  listAt,
-  suiteAt,
-  namedAt,
-  callOn,
-  byStart,
-  exprAt,
-}
+use Rattle.tree.specs.Bounds.{nodes}
+use Rattle.texts.specs.Spelling.{spell, width}
+use Rattle.texts.specs.Reading.{Part, thenPart, between, runOf, dueAt, ifDue, same, startOf, argsAt, byStart, exprAt}
 use Rattle.texts.specs.Reading.Part.{part, bad}
 use Rattle.texts.specs.Reading.Due.{stands, missing}
-use Rattle.texts.specs.Unbound.{Place, later, first, unboundIn}
+use Rattle.texts.specs.Unbound.{later, first, unboundIn}
 use Rattle.texts.specs.Unbound.Place.{at, nowhere}
-use Rattle.texts.proofs.Standing.{stands-here, Pass, between-is}
+use Rattle.texts.proofs.Standing.{stands-here}
 use Rattle.texts.proofs.Width.{length-spell, width-two}
-use Rattle.texts.proofs.LeavesBack.{Back}
 use Rattle.texts.proofs.Spelt.{spelt-read}
 use Rattle.texts.proofs.Back.{expr-back}
 

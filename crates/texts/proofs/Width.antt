@@ -1,16 +1,16 @@
 -- How many bytes of text a tree takes, and where its arguments stand.
 use mathlib.Core.Bool.{Bool, true, false}
-use mathlib.Core.List.{List, [], _∷_, _++_, append-assoc}
-use mathlib.Core.Path.{_≡_, refl, sym, ap, ap₂, _∙_}
-use Prim.Native.Nat.{ℕ, zero, suc, _+_, _-_, _*_, _≤_, _<_}
+use mathlib.Core.List.{List, [], _∷_, _++_}
+use mathlib.Core.Path.{_≡_, refl, ap, _∙_}
+use Prim.Native.Nat.{ℕ, _+_, _-_, _*_, _≤_}
 use native.Mathlib.Omega.{arith}
-use lib.ListN.{length, drop, length-append}
+use lib.ListN.{length, length-append}
 use Rattle.common.specs.Choice.{pick}
 use Rattle.tree.specs.Tree.{Tree}
 use Rattle.tree.specs.Tree.Tree.{literal, bound, row, run, one, two, three, four, when}
-use Rattle.tree.specs.Calls.{Call, calls}
+use Rattle.tree.specs.Calls.{calls}
 use Rattle.tree.specs.Bounds.{whenKind}
-use Rattle.texts.specs.Spelling.{Found, hexDigit, pairs, rowIn, suitePart, nameBy, nameOf, listed, spell, nameWidth, headWidth, width}
+use Rattle.texts.specs.Spelling.{Found, pairs, rowIn, suitePart, nameBy, nameOf, listed, spell, nameWidth, headWidth, width}
 use Rattle.texts.specs.Spelling.Found.{known, unknown}
 
 pub length-pairs : (v : List ℕ) → length (pairs v) ≡ 2 * length v

@@ -1,6 +1,6 @@
 -- Reading a text left to right to a tree, or to a number and its place (document 01, sections 5 and 7).
 use mathlib.Core.Bool.{Bool, true, false}
-use mathlib.Core.List.{List, [], _∷_, _++_}
+use mathlib.Core.List.{List, [], _∷_}
 use Prim.Native.Nat.{ℕ, zero, suc, _+_, _-_, _*_, _/_, _%_}
 use lib.Dec.{eqb, leb}
 use lib.ListN.{length, take, drop, getD}
@@ -20,7 +20,7 @@ pub data Part (A : Type 0) : Type 0 where
   part : A → ℕ → ℕ → Part A
   bad : ℕ → ℕ → Part A
 
--- the first refusal, left to right, is the answer
+-- section 7: reading left to right, the first refusal is the answer
 unfoldable pub thenPart : {A B : Type 0} → Part A → (A → ℕ → ℕ → Part B) → Part B
 thenPart (part a p n) f = f a p n
 thenPart (bad k p) f = bad k p
@@ -28,11 +28,11 @@ thenPart (bad k p) f = bad k p
 unfoldable pub between : ℕ → ℕ → ℕ → Bool
 between lo hi b = pick (leb lo b) (leb b hi) false
 
--- a-z
+-- section 5: lower-case letters
 unfoldable pub isLetter : ℕ → Bool
 isLetter = between 97 122
 
--- 0-9 A-F
+-- section 5: 0-9 A-F
 unfoldable pub isHex : ℕ → Bool
 isHex b = pick (between 48 57 b) true (between 65 70 b)
 
@@ -46,7 +46,7 @@ pub data Due : Type 0 where
   stands : Due
   missing : ℕ → Due
 
--- a byte from lo to hi is due at p; where the text ends early the place is its length
+-- section 7: a byte from lo to hi is due at p; the place of 20 is the byte that is not allowed, or the length where the text ends early
 unfoldable pub dueAt : List ℕ → ℕ → ℕ → ℕ → Due
 dueAt s lo hi p = pick (leb (length s) p) (missing (length s)) (pick (between lo hi (getD s p 0)) stands (missing p))
 
@@ -62,7 +62,7 @@ hexValue b = pick (leb b 57) (b - 48) (b - 55)
 unfoldable pub pairAt : List ℕ → ℕ → ℕ
 pairAt s p = 16 * hexValue (getD s p 0) + hexValue (getD s (p + 1) 0)
 
--- a literal whose first quote is at p and after it k digits: the closing quote is due, in whole pairs; 6 where it closes well
+-- sections 5 and 7: k digits stand after the first quote at p; the closing quote is due, after whole pairs; 6 is for a literal that closes well
 unfoldable pub literalOf : List ℕ → ℕ → ℕ → ℕ → Part Tree
 literalOf s p n k =
     ifDue (dueAt s 39 39 (p + 1 + k))
@@ -71,7 +71,7 @@ literalOf s p n k =
 unfoldable pub literalAt : List ℕ → ℕ → ℕ → Part Tree
 literalAt s p n = literalOf s p n (runOf isHex (drop (p + 1) s))
 
--- a name's digit, up to the byte hi, is due after its sign at p
+-- section 5: a name's digit, up to the byte hi, is due after its sign at p
 unfoldable pub nameAt : (ℕ → Tree) → ℕ → List ℕ → ℕ → ℕ → Part Tree
 nameAt name hi s p n = ifDue (dueAt s 48 hi (p + 1)) (part (name (getD s (p + 1) 0 - 48)) (p + 2) (n + 1))
 
@@ -81,12 +81,12 @@ same [] (y ∷ b) = false
 same (x ∷ a) [] = false
 same (x ∷ a) (y ∷ b) = let rest = same a b in pick (eqb x y) rest false
 
--- the row that has these letters
+-- section 5: the row that has these letters
 unfoldable pub callIn : List Call → List ℕ → Found
 callIn [] w = unknown
 callIn (r ∷ rs) w = let later = callIn rs w in pick (same (r .letters) w) (known r) later
 
--- a call of this kind with these arguments: the calls of the table have one to four
+-- section 5: a call of this kind with these arguments: the calls of the table have one to four
 unfoldable pub callOf : ℕ → List Tree → ℕ → ℕ → Part Tree
 callOf k [] p n = bad 20 p
 callOf k (a ∷ []) p n = part (one k a) p n
@@ -103,7 +103,7 @@ pub data Start : Type 0 where
 unfoldable pub startOf : ℕ → Start
 startOf b = pick (eqb b 39) quote (pick (eqb b 35) hash (pick (eqb b 36) dollar (pick (eqb b 64) sign (pick (isLetter b) letter other))))
 
--- the argument list reads expressions: this many are still due, c before the next of them
+-- section 5: the argument list reads expressions; this many are still due, c before the next of them
 unfoldable pub argsAt : (ℕ → ℕ → Part Tree) → List ℕ → ℕ → ℕ → ℕ → ℕ → Part (List Tree)
 argsAt expr s zero c p n = ifDue (dueAt s 41 41 p) (part [] (p + 1) n)
 argsAt expr s (suc left) c p n =
@@ -115,17 +115,17 @@ module _ (expr : ℕ → ℕ → Part Tree) (s : List ℕ) where
   unfoldable pub listAt : ℕ → ℕ → ℕ → ℕ → Part Tree
   listAt k count p n = thenPart (argsAt expr s count 40 p (n + 1)) (callOf k)
 
-  -- after a cipher call's letters a `.` and a suite digit 1 to 5 are due
+  -- section 5: after a cipher call's letters a `.` and a suite digit 1 to 5 are due
   unfoldable pub suiteAt : Bool → Call → ℕ → ℕ → Part Tree
   suiteAt false r p n = listAt (r .kind) (r .arguments) p n
   suiteAt true r p n = ifDue (dueAt s 46 46 p) (ifDue (dueAt s 49 53 (p + 1)) (listAt (r .kind + (getD s (p + 1) 0 - 48)) (r .arguments) (p + 2) n))
 
-  -- the letters from p to q are judged where they end
+  -- section 7: the letters from p to q are judged where they end; an unknown name at its first letter
   unfoldable pub namedAt : Found → ℕ → ℕ → ℕ → Part Tree
   namedAt (known r) p q n = suiteAt (r .suited) r q n
   namedAt unknown p q n = bad 20 p
 
-  -- a call whose letters are the longest run, k of them from p on
+  -- section 5: a call's letters are the longest run, k of them from p on
   unfoldable pub callOn : ℕ → ℕ → ℕ → Part Tree
   callOn k p n = namedAt (callIn calls (take k (drop p s))) p (p + k) n
 
@@ -137,24 +137,25 @@ module _ (expr : ℕ → ℕ → Part Tree) (s : List ℕ) where
   byStart letter p n = callOn (runOf isLetter (drop p s)) p n
   byStart other p n = bad 20 p
 
--- an expression is due at p after n nodes, with d levels left: 22, then 23, before its first byte
+-- section 7: an expression is due at p after n nodes, with d levels left: 22, then 23, before its first byte
 unfoldable pub exprAt : ℕ → List ℕ → ℕ → ℕ → Part Tree
 exprAt zero s p n = bad 22 p
 exprAt (suc d) s p n = pick (leb 128 n) (bad 23 p) (pick (leb (length s) p) (bad 20 (length s)) (byStart (exprAt d s) s (startOf (getD s p 0)) p n))
 
--- after the root only the end
+-- section 5: after the root only the end
 unfoldable pub endAt : List ℕ → Part Tree → Read
 endAt s (part t p n) = pick (leb (length s) p) (got t) (wrong 20 p)
 endAt s (bad k p) = wrong k p
 
+-- section 5: depth at most 16
 unfoldable pub readText : List ℕ → Read
 readText s = endAt s (exprAt 16 s 0 0)
 
--- 21 is judged before reading, its place is 0
+-- section 7: 21 is judged before reading, its place is 0
 unfoldable pub takeText : List ℕ → Read
 takeText s = pick (leb (length s) 4096) (readText s) (wrong 21 0)
 
--- the numbers that reading gives
+-- section 7: the numbers that reading gives
 pub data ReadingNumber : ℕ → Type 0 where
   syntax : ReadingNumber 20
   deep : ReadingNumber 22

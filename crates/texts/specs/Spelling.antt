@@ -10,11 +10,11 @@ use Rattle.tree.specs.Tree.Tree.{literal, bound, row, run, one, two, three, fou
 use Rattle.tree.specs.Calls.{Call, calls}
 use Rattle.tree.specs.Bounds.{ofRow, whenKind}
 
--- 0-9 A-F
+-- section 5: 0-9 A-F
 unfoldable pub hexDigit : ℕ → ℕ
 hexDigit d = pick (ltb d 10) (48 + d) (55 + d)
 
--- a pair of digits for each byte, the high one first
+-- section 5: a literal's pairs, the high digit of each byte first
 unfoldable pub pairs : List ℕ → List ℕ
 pairs [] = []
 pairs (x ∷ v) = hexDigit (x / 16) ∷ hexDigit (x % 16) ∷ pairs v
@@ -24,12 +24,12 @@ pub data Found : Type 0 where
   known : Call → Found
   unknown : Found
 
--- the row that a kind is of
+-- section 6: the row that a kind is of
 unfoldable pub rowIn : List Call → ℕ → Found
 rowIn [] k = unknown
 rowIn (r ∷ rs) k = let later = rowIn rs k in pick (ofRow (r .suited) (r .kind) k) (known r) later
 
--- for cipher calls a `.` and a suite digit
+-- section 5: for cipher calls a `.` and a suite digit
 unfoldable pub suitePart : Bool → ℕ → List ℕ
 suitePart false d = []
 suitePart true d = 46 ∷ (48 + d) ∷ []
@@ -42,11 +42,12 @@ nameBy unknown k = []
 unfoldable pub nameOf : ℕ → List ℕ
 nameOf k = nameBy (rowIn calls k) k
 
--- `(` before the first argument, `,` before each other, `)` after the last: c is the byte before the next
+-- section 5: `(` before the first argument, `,` before each other, `)` after the last: c is the byte before the next
 unfoldable pub listed : ℕ → List (List ℕ) → List ℕ
 listed c [] = 41 ∷ []
 listed c (a ∷ l) = c ∷ (a ++ listed 44 l)
 
+-- section 5: literals, names `#` `$` `@`, calls
 unfoldable pub spell : Tree → List ℕ
 spell (literal v) = 39 ∷ (pairs v ++ (39 ∷ []))
 spell (bound n) = 35 ∷ (48 + n) ∷ []

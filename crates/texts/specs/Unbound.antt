@@ -1,5 +1,5 @@
 -- The place of the first unbound `#` (document 01, section 7: 25), dropped sides included.
-use mathlib.Core.Bool.{Bool, true, false}
+use mathlib.Core.Bool.{Bool, true}
 use mathlib.Core.List.{List, [], _∷_}
 use mathlib.Core.Path.{_≡_}
 use Prim.Native.Nat.{ℕ, _+_, _-_}
@@ -25,7 +25,7 @@ unfoldable pub first : Place → ℕ → Place → Place
 first (at p) w y = at p
 first nowhere w y = later w y
 
--- in text order; `has n` says whether #n has a value
+-- section 7: the first unbound `#` in text order; `has n` says whether #n has a value
 unfoldable pub unboundAt : (ℕ → Bool) → Tree → Place
 unboundAt has (literal v) = nowhere
 unboundAt has (bound n) = pick (has n) nowhere (at 0)
@@ -38,7 +38,7 @@ unboundAt has (four k a b c d) =
     later (headWidth k) (first (unboundAt has a) (width a + 1) (first (unboundAt has b) (width b + 1) (first (unboundAt has c) (width c + 1) (unboundAt has d))))
 unboundAt has (when c a b) = later (headWidth whenKind) (first (unboundAt has c) (width c + 1) (first (unboundAt has a) (width a + 1) (unboundAt has b)))
 
--- every `#` of a tree has a value, dropped sides included
+-- section 7: every `#` of a tree has a value, dropped sides included
 unfoldable pub AllBound : (ℕ → Bool) → Tree → Type 0
 AllBound has (literal v) = Unit {0}
 AllBound has (bound n) = has n ≡ true

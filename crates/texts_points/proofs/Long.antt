@@ -1,16 +1,14 @@
 -- A literal of 1,024 bytes and a text of 4,096 that reads to a tree (document 01, section 5).
-use mathlib.Core.List.{List, [], _∷_}
-use mathlib.Core.Path.{_≡_, refl, sym, ap, _∙_}
-use Prim.Native.Nat.{ℕ, zero, suc, _+_, _≤_, _<_}
+use mathlib.Core.Path.{_≡_, refl, _∙_}
+use Prim.Native.Nat.{ℕ, zero, suc, _+_, _≤_}
 use native.Mathlib.Omega.{arith}
-use lib.ListN.{length, getD, replicate, length-replicate}
+use lib.ListN.{length, replicate, length-replicate}
 use Rattle.common.specs.Choice.{pick}
 use Rattle.tree.specs.Tree.{Tree}
 use Rattle.tree.specs.Tree.Tree.{literal, two}
 use Rattle.tree.specs.Calls.{calls, plain, cipher}
 use Rattle.tree.specs.Bounds.{depth, nodes, ofRow, argumentsIn, argumentsOf, Bytes, Proper, Small, Within}
-use Rattle.tree.specs.Reading.{Read}
-use Rattle.tree.specs.Reading.Read.{got, wrong}
+use Rattle.tree.specs.Reading.Read.{got}
 use Rattle.texts.specs.Spelling.{spell, width, headWidth, nameWidth, rowIn}
 use Rattle.texts.specs.Reading.{takeText}
 use Rattle.texts.proofs.Examples.{reads, long}
