@@ -1,0 +1,2 @@
+-- The points of document 01, section 8.
+pub mod Points
