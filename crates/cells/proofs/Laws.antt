@@ -12,14 +12,6 @@ use Rattle.common.proofs.Places.{length-tab, tab-ext, tab-add}
 use Rattle.field.specs.Column.{byteOf, pack}
 use Rattle.words.specs.Words.{wordAt}
 
-word-pack : (f : ℕ → ℕ) → (((((((f 7 * 256 + f 6) * 256 + f 5) * 256 + f 4) * 256 + f 3) * 256 + f 2) * 256 + f 1) * 256 + f 0) ≡ pack 8 f
-unfolding pack
-word-pack f = ap (λ x. (((((((x * 256 + f 6) * 256 + f 5) * 256 + f 4) * 256 + f 3) * 256 + f 2) * 256 + f 1) * 256 + f 0)) (sym (zero-add (f 7)))
-
-pub eight-bytes : (f : ℕ → ℕ) (w7 w6 w5 w4 w3 w2 w1 w0 : ℕ) → w7 ≡ f 7 → w6 ≡ f 6 → w5 ≡ f 5 → w4 ≡ f 4 → w3 ≡ f 3 → w2 ≡ f 2 → w1 ≡ f 1 → w0 ≡ f 0
-    → (((((((w7 * 256 + w6) * 256 + w5) * 256 + w4) * 256 + w3) * 256 + w2) * 256 + w1) * 256 + w0) ≡ pack 8 f
-eight-bytes f w7 w6 w5 w4 w3 w2 w1 w0 e7 e6 e5 e4 e3 e2 e1 e0 = cc (word-pack f)
-
 -- eight stores, one after another
 pub sets-eight : (l : List ℕ) (at w : ℕ) →
     set (set (set (set (set (set (set (set l at (w % 256)) (at + 1) (w / 256 % 256)) (at + 2) (w / 65536 % 256)) (at + 3) (w / 16777216 % 256)) (at + 4) (w / 4294967296 % 256))

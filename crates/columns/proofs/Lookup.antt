@@ -12,15 +12,6 @@ use Rattle.field.proofs.XorLaws.{zero-l}
 use Rattle.field.proofs.PackLaws.{pack-ext}
 use Rattle.lookup.specs.Table.{turned, entry, half, gather}
 
-word-pack : (f : ℕ → ℕ) → (((((((f 7 * 256 + f 6) * 256 + f 5) * 256 + f 4) * 256 + f 3) * 256 + f 2) * 256 + f 1) * 256 + f 0) ≡ pack 8 f
-unfolding pack
-word-pack f = ap (λ x. (((((((x * 256 + f 6) * 256 + f 5) * 256 + f 4) * 256 + f 3) * 256 + f 2) * 256 + f 1) * 256 + f 0)) (sym (zero-add (f 7)))
-
--- eight bytes, each under its own equation
-pub eight-bytes : (f : ℕ → ℕ) (w7 w6 w5 w4 w3 w2 w1 w0 : ℕ) → w7 ≡ f 7 → w6 ≡ f 6 → w5 ≡ f 5 → w4 ≡ f 4 → w3 ≡ f 3 → w2 ≡ f 2 → w1 ≡ f 1 → w0 ≡ f 0
-    → (((((((w7 * 256 + w6) * 256 + w5) * 256 + w4) * 256 + w3) * 256 + w2) * 256 + w1) * 256 + w0) ≡ pack 8 f
-eight-bytes f w7 w6 w5 w4 w3 w2 w1 w0 e7 e6 e5 e4 e3 e2 e1 e0 = cc (word-pack f)
-
 -- four rows
 pub four-rows : (t : List ℕ) (b : ℕ → ℕ) (r y x e0 e1 e2 e3 : ℕ) → e0 ≡ entry t 0 (b 0) → e1 ≡ entry t 1 (b 1) → e2 ≡ entry t 2 (b 2) → e3 ≡ entry t 3 (b 3)
     → x ≡ xor e0 e1 → y ≡ xor x e2 → r ≡ xor y e3 → r ≡ half t b

@@ -8,7 +8,7 @@ use native.Mathlib.Numerals.{add-one}
 use lib.Pow.{pow-pos, split}
 use lib.Bits.{xor-shifted}
 use Rattle.field.specs.Xor.{xor}
-use Rattle.field.specs.Field.{double, timesDigits, times}
+use Rattle.field.specs.Field.{polynomial, double, timesDigits, times}
 use Rattle.field.proofs.XorLaws as X
 
 abbrev pub Lin : (ℕ → ℕ) → Type 0
@@ -39,9 +39,9 @@ unfolding double
 double-lin x y =
     ap (λ z. z % 256)
     (ap₂ xor (twofold-lin x y)
-    (ap (λ z. z % 2 * 0x11D) (X.high 7 x y) ∙ ap (λ z. z * 0x11D) (X.low 1 (x / 128) (y / 128)) ∙ bit-mul (x / 128 % 2) (y / 128 % 2) 0x11D (mod-lt _ two) (mod-lt _ two))
-    ∙ X.swap4 (x * 2) (y * 2) (x / 128 % 2 * 0x11D) (y / 128 % 2 * 0x11D))
-    ∙ X.low 8 (xor (x * 2) (x / 128 % 2 * 0x11D)) (xor (y * 2) (y / 128 % 2 * 0x11D))
+    (ap (λ z. z % 2 * polynomial) (X.high 7 x y) ∙ ap (λ z. z * polynomial) (X.low 1 (x / 128) (y / 128)) ∙ bit-mul (x / 128 % 2) (y / 128 % 2) polynomial (mod-lt _ two) (mod-lt _ two))
+    ∙ X.swap4 (x * 2) (y * 2) (x / 128 % 2 * polynomial) (y / 128 % 2 * polynomial))
+    ∙ X.low 8 (xor (x * 2) (x / 128 % 2 * polynomial)) (xor (y * 2) (y / 128 % 2 * polynomial))
 
 pub double-lt : (x : ℕ) → double x < 256
 unfolding double

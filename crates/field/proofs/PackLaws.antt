@@ -1,8 +1,7 @@
 -- Bytes and the numbers that they make: each undoes the other, and xor passes through.
 use mathlib.Core.Path.{_≡_, refl, sym, ap, ap₂, _∙_, subst}
 use Prim.Native.Nat.{ℕ, zero, suc, _+_, _*_, _/_, _%_, _^_, _<_, _≤_}
-use native.Mathlib.Nat.{mod-lt, div-one, pow-suc, pow-succ', div-div-eq-div-mul, div-add-mod', div-lt-iff-lt-mul, not-suc-le-zero, zero-lt-suc, le-of-suc-le-suc, zero-mul}
-use native.Mathlib.Numerals.{}
+use native.Mathlib.Nat.{mod-lt, div-one, pow-suc, pow-succ', div-div-eq-div-mul, div-add-mod', div-lt-iff-lt-mul, not-suc-le-zero, zero-lt-suc, le-of-suc-le-suc, zero-mul, zero-add}
 use native.Mathlib.Omega.{arith}
 use lib.Arith.{digits-lt, digits-div, digits-mod}
 use Rattle.field.specs.Xor.{xor}
@@ -100,3 +99,12 @@ pub byte-xor : (a b i : ℕ) → byteOf (xor a b) i ≡ xor (byteOf a i) (byteOf
 byte-xor a b zero = byteOf-zero (xor a b) ∙ X.low 8 a b ∙ sym (ap₂ xor (byteOf-zero a) (byteOf-zero b))
 byte-xor a b (suc i) =
     byteOf-suc (xor a b) i ∙ ap (λ x. byteOf x i) (X.high 8 a b) ∙ byte-xor (a / 256) (b / 256) i ∙ sym (ap₂ xor (byteOf-suc a i) (byteOf-suc b i))
+
+word-pack : (f : ℕ → ℕ) → (((((((f 7 * 256 + f 6) * 256 + f 5) * 256 + f 4) * 256 + f 3) * 256 + f 2) * 256 + f 1) * 256 + f 0) ≡ pack 8 f
+unfolding pack
+word-pack f = ap (λ x. (((((((x * 256 + f 6) * 256 + f 5) * 256 + f 4) * 256 + f 3) * 256 + f 2) * 256 + f 1) * 256 + f 0)) (sym (zero-add (f 7)))
+
+-- eight bytes, each under its own equation
+pub eight-bytes : (f : ℕ → ℕ) (w7 w6 w5 w4 w3 w2 w1 w0 : ℕ) → w7 ≡ f 7 → w6 ≡ f 6 → w5 ≡ f 5 → w4 ≡ f 4 → w3 ≡ f 3 → w2 ≡ f 2 → w1 ≡ f 1 → w0 ≡ f 0
+    → (((((((w7 * 256 + w6) * 256 + w5) * 256 + w4) * 256 + w3) * 256 + w2) * 256 + w1) * 256 + w0) ≡ pack 8 f
+eight-bytes f w7 w6 w5 w4 w3 w2 w1 w0 e7 e6 e5 e4 e3 e2 e1 e0 = cc (word-pack f)

@@ -2,9 +2,12 @@
 use Prim.Native.Nat.{ℕ, zero, suc, _*_, _/_, _%_}
 use Rattle.field.specs.Xor.{xor}
 
--- times x: doubled, and less 0x11D where the digit of x^7 was set
+abbrev pub polynomial : ℕ
+polynomial = 0x11D
+
+-- times x: doubled, and less the polynomial where the digit of x^7 was set
 unfoldable pub double : ℕ → ℕ
-double a = xor (a * 2) (a / 128 % 2 * 0x11D) % 256
+double a = xor (a * 2) (a / 128 % 2 * polynomial) % 256
 
 -- the lowest n binary digits of a, as a polynomial, times b
 unfoldable pub timesDigits : ℕ → ℕ → ℕ → ℕ

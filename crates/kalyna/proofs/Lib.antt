@@ -2,3 +2,4 @@
 pub mod Rows
 pub mod Undo
 pub mod Bytes
+pub mod Pinned

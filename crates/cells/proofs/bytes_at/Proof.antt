@@ -3,7 +3,7 @@ use Prim.Native.Nat.{_+_}
 use native.Mathlib.Nat.{add-zero}
 use lib.ListN.{getD}
 use denote.Ref.{now}
-use Rattle.cells.proofs.Laws.{eight-bytes, sets-eight, bytes, stored-more}
+use Rattle.field.proofs.PackLaws.{eight-bytes}
 use borrow.Author.Needs.{needs}
 use Rattle.cells.proofs.bytes_at.Statement.{statement}
 use Rattle.cells.proofs.bytes_at.Tie as tie

@@ -9,7 +9,7 @@ use Rattle.common.specs.Places.{tab}
 use Rattle.field.specs.Column.{byteOf, pack}
 use Rattle.words.specs.Words.{wordAt, putWords}
 use Rattle.words.proofs.Walks.{length-puts}
-use Rattle.cells.proofs.Laws.{eight-bytes, sets-eight, bytes, stored-more}
+use Rattle.cells.proofs.Laws.{sets-eight, bytes, stored-more}
 use Rattle.cells.proofs.store.Statement.{statement}
 use Rattle.cells.proofs.store.Tie as tie
 use Rattle.cells.proofs.store.Reads as reads

@@ -3,7 +3,7 @@ use Prim.Native.Nat.{_+_}
 use native.Mathlib.Nat.{add-zero}
 use lib.ListN.{getD}
 use denote.Ref.{now}
-use Rattle.columns.proofs.Lookup.{eight-bytes, four-rows, turn-fits}
+use Rattle.field.proofs.PackLaws.{eight-bytes}
 use borrow.Author.Needs.{needs}
 use Rattle.columns.proofs.eight_at.Statement.{statement}
 use Rattle.columns.proofs.eight_at.Tie as tie

@@ -4,7 +4,7 @@ use Prim.Native.Nat.{_/_, _%_}
 use lib.ListN.{getD}
 use denote.Ref.{now}
 use Rattle.lookup.specs.Table.{turned, entry, half, gather}
-use Rattle.columns.proofs.Lookup.{eight-bytes, four-rows, turn-fits}
+use Rattle.columns.proofs.Lookup.{four-rows, turn-fits}
 use borrow.Author.Needs.{needs}
 use Rattle.columns.proofs.half_of.Statement.{statement}
 use Rattle.columns.proofs.half_of.Tie as tie

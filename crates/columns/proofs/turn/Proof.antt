@@ -1,7 +1,7 @@
 use mathlib.Core.Path.{refl}
 use native.Mathlib.Omega.{arith}
 use Rattle.lookup.specs.Table.{turned, entry, half, gather}
-use Rattle.columns.proofs.Lookup.{eight-bytes, four-rows, turn-fits}
+use Rattle.columns.proofs.Lookup.{four-rows, turn-fits}
 use borrow.Author.Needs.{needs}
 use Rattle.columns.proofs.turn.Statement.{statement}
 use Rattle.columns.proofs.turn.Tie as tie
