@@ -10,7 +10,11 @@ use lib.Seq.{sets, sets-eq, length-sets, take-at, drop-at, drop-drop, length-tak
 use Rattle.common.specs.Places.{tab}
 use Rattle.common.proofs.Places.{length-tab, tab-ext, tab-add}
 use Rattle.field.specs.Column.{byteOf, pack}
+use Rattle.field.specs.Xor.{xor}
+use Rattle.field.proofs.PackLaws.{byte-xor, byte-pack}
 use Rattle.words.specs.Words.{wordAt}
+use Rattle.words.proofs.Laws.{Pieces}
+use Rattle.words.proofs.Walks.{low-0, low-1, low-2, low-3, high-0, high-1, high-2, high-3}
 
 -- eight stores, one after another
 pub sets-eight : (l : List ℕ) (at w : ℕ) →
@@ -19,38 +23,67 @@ pub sets-eight : (l : List ℕ) (at w : ℕ) →
 unfolding tab byteOf
 sets-eight l at w = simp (towards-suc, div-one)
 
--- the bytes of the first columns of s
-abbrev pub bytes : List ℕ → ℕ → ℕ
-bytes s n = byteOf (wordAt s (n / 8)) (n % 8)
+-- byte n of the columns from w on
+abbrev pub byte : List ℕ → ℕ → ℕ → ℕ
+byte s w n = byteOf (wordAt s (w + n / 8)) (n % 8)
 
--- the first j columns are stored
-pub stored-more : (s o₀ o o′ : List ℕ) (j w : ℕ) → 8 * (j + 1) ≤ length o₀ → o ≡ tab (8 * j) (bytes s) ++ drop (8 * j) o₀ → w ≡ wordAt s j → o′ ≡ sets o (8 * j) (tab 8 (byteOf w))
-    → o′ ≡ tab (8 * (j + 1)) (bytes s) ++ drop (8 * (j + 1)) o₀
-stored-more s o₀ o o′ j w h e ew e′ =
-    e′ ∙ sets-eq (tab 8 (byteOf w)) o (8 * j) (subst (λ n. 8 * j + n ≤ length o) (sym (length-tab 8 (byteOf w))) (omega (arith, long)))
-    ∙ ap₂ (λ (x y : List ℕ). x ++ tab 8 (byteOf w) ++ y) front back
-    ∙ ap (λ x. tab (8 * j) (bytes s) ++ x ++ drop (8 * (j + 1)) o₀) run
-    ∙ ap (λ x. x ++ drop (8 * (j + 1)) o₀) (sym (tab-add (8 * j) 8 (bytes s)) ∙ ap (λ n. tab n (bytes s)) more)
+quotient : (j i : ℕ) → i < 8 → (8 * j + i) / 8 ≡ j
+quotient j i l = omega arith
+
+remainder : (j i : ℕ) → i < 8 → (8 * j + i) % 8 ≡ i
+remainder j i l = omega arith
+
+-- eight more bytes of the columns
+pub eight-stored : (s : List ℕ) (w j x : ℕ) → x ≡ wordAt s (w + j) → tab 8 (byteOf x) ≡ tab 8 (λ k. byte s w (8 * j + k))
+eight-stored s w j x e = tab-ext 8 _ _ (λ i l. ap₂ (λ (a b : ℕ). byteOf a b) (e ∙ ap (λ n. wordAt s (w + n)) (sym (quotient j i l))) (sym (remainder j i l)))
+
+-- eight more bytes with the columns added modulo 2
+pub eight-xored : (s b : List ℕ) (w at j x y z : ℕ) → ((n : ℕ) → getD b n 0 < 256) → x ≡ pack 8 (λ i. getD b (at + 8 * j + i) 0) → y ≡ wordAt s (w + j) → z ≡ xor x y
+    → tab 8 (byteOf z) ≡ tab 8 (λ k. xor (getD b (at + (8 * j + k)) 0) (byte s w (8 * j + k)))
+eight-xored s b w at j x y z h ex ey ez =
+    tab-ext 8 _ _ (λ i l.
+    ap (λ v. byteOf v i) ez ∙ byte-xor x y i
+    ∙ ap₂ xor
+    (ap (λ v. byteOf v i) ex ∙ byte-pack 8 (λ i. getD b (at + 8 * j + i) 0) (λ i l. h (at + 8 * j + i)) i l ∙ ap (λ n. getD b n 0) (sum i))
+    (ap₂ (λ (a b : ℕ). byteOf a b) (ey ∙ ap (λ n. wordAt s (w + n)) (sym (quotient j i l))) (sym (remainder j i l))))
   where
-    more : 8 * j + 8 ≡ 8 * (j + 1)
-    more = omega arith
+    sum : (i : ℕ) → at + 8 * j + i ≡ at + (8 * j + i)
+    sum i = omega arith
 
-    long : length o ≡ 8 * j + (length o₀ - 8 * j)
-    long = ap length e ∙ length-append (tab (8 * j) (bytes s)) (drop (8 * j) o₀) ∙ ap₂ (λ (x y : ℕ). x + y) (length-tab (8 * j) (bytes s)) (lib.ListN.length-drop (8 * j) o₀)
+pub eight-more : (j : ℕ) → 8 * j + 8 ≡ 8 * (j + 1)
+eight-more j = omega arith
 
-    front : take (8 * j) o ≡ tab (8 * j) (bytes s)
-    front = ap (take (8 * j)) e ∙ take-at (tab (8 * j) (bytes s)) (drop (8 * j) o₀) (8 * j) (length-tab (8 * j) (bytes s))
+-- ---- one byte of a cell
 
-    back : drop (8 * j + length (tab 8 (byteOf w))) o ≡ drop (8 * (j + 1)) o₀
-    back =
-        ap (λ n. drop (8 * j + n) o) (length-tab 8 (byteOf w)) ∙ sym (drop-drop 8 (8 * j) o) ∙ ap (λ l. drop 8 (drop (8 * j) l)) e
-        ∙ ap (drop 8) (drop-at (tab (8 * j) (bytes s)) (drop (8 * j) o₀) (8 * j) (length-tab (8 * j) (bytes s))) ∙ drop-drop 8 (8 * j) o₀ ∙ ap (λ n. drop n o₀) more
+eight : (P : ℕ → Type 0) → P 0 → P 1 → P 2 → P 3 → P 4 → P 5 → P 6 → P 7 → (i : ℕ) → i < 8 → P i
+eight P a b c d e f g h zero l = a
+eight P a b c d e f g h (suc zero) l = b
+eight P a b c d e f g h (suc (suc zero)) l = c
+eight P a b c d e f g h (suc (suc (suc zero))) l = d
+eight P a b c d e f g h (suc (suc (suc (suc zero)))) l = e
+eight P a b c d e f g h (suc (suc (suc (suc (suc zero))))) l = f
+eight P a b c d e f g h (suc (suc (suc (suc (suc (suc zero)))))) l = g
+eight P a b c d e f g h (suc (suc (suc (suc (suc (suc (suc zero))))))) l = h
+eight P a b c d e f g h (suc (suc (suc (suc (suc (suc (suc (suc i)))))))) l = let z : ⊥ = omega arith in absurd z
 
-    run : tab 8 (byteOf w) ≡ tab 8 (λ i. bytes s (8 * j + i))
-    run = tab-ext 8 _ _ (λ i l. ap₂ byteOf (ew ∙ ap (wordAt s) (sym (quotient i l))) (sym (remainder i l)))
-      where
-        quotient : (i : ℕ) → i < 8 → (8 * j + i) / 8 ≡ j
-        quotient i l = omega arith
+-- half i of a piece: low for an even byte, high for an odd one
+byte-by : (s : List ℕ) (j : ℕ) → Pieces s → (i : ℕ) → i < 8 → (n : ℕ) → n ≡ 4 * j + i / 2 → (i % 2 ≡ 0 → getD s n 0 % 256 ≡ byteOf (wordAt s j) i) × ((i % 2 ≡ 0 → ⊥) → getD s n 0 / 256 ≡ byteOf (wordAt s j) i)
+byte-by s j h =
+    eight (λ i. (n : ℕ) → n ≡ 4 * j + i / 2 → (i % 2 ≡ 0 → getD s n 0 % 256 ≡ byteOf (wordAt s j) i) × ((i % 2 ≡ 0 → ⊥) → getD s n 0 / 256 ≡ byteOf (wordAt s j) i))
+    (λ n e. ((λ q. sym (low-0 s j h n (omega arith))), (λ q. absurd (q refl))))
+    (λ n e. ((λ q. never q), (λ q. sym (high-0 s j h n (omega arith)))))
+    (λ n e. ((λ q. sym (low-1 s j h n (omega arith))), (λ q. absurd (q refl))))
+    (λ n e. ((λ q. never q), (λ q. sym (high-1 s j h n (omega arith)))))
+    (λ n e. ((λ q. sym (low-2 s j h n (omega arith))), (λ q. absurd (q refl))))
+    (λ n e. ((λ q. never q), (λ q. sym (high-2 s j h n (omega arith)))))
+    (λ n e. ((λ q. sym (low-3 s j h n (omega arith))), (λ q. absurd (q refl))))
+    (λ n e. ((λ q. never q), (λ q. sym (high-3 s j h n (omega arith)))))
+  where
+    never : {A : Type 0} → _≡_ {A = ℕ} 1 0 → A
+    never q = let z : ⊥ = omega arith in absurd z
 
-        remainder : (i : ℕ) → i < 8 → (8 * j + i) % 8 ≡ i
-        remainder i l = omega arith
+pub even-byte : (s : List ℕ) (k : ℕ) → Pieces s → k % 2 ≡ 0 → getD s (k / 2) 0 % 256 ≡ byteOf (wordAt s (k / 8)) (k % 8)
+even-byte s k h e = byte-by s (k / 8) h (k % 8) (omega arith) (k / 2) (omega arith) .0 (omega arith)
+
+pub odd-byte : (s : List ℕ) (k : ℕ) → Pieces s → (k % 2 ≡ 0 → ⊥) → getD s (k / 2) 0 / 256 ≡ byteOf (wordAt s (k / 8)) (k % 8)
+odd-byte s k h e = byte-by s (k / 8) h (k % 8) (omega arith) (k / 2) (omega arith) .1 (λ q. e (omega arith))

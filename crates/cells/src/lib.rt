@@ -2,9 +2,10 @@
 ghost use mathlib.Core.Path.{_≡_};
 ghost use mathlib.Core.List.{_++_};
 ghost use Prim.Native.Nat.{_+_, _*_, _/_, _%_, _≤_, _<_};
-ghost use lib.ListN.{getD, drop, length};
+ghost use lib.ListN.{getD, take, drop, length};
 ghost use lib.Seq.{sets};
 ghost use Rattle.common.specs.Places.{tab};
+ghost use Rattle.field.specs.Xor.{xor};
 ghost use Rattle.field.specs.Column.{byteOf, pack};
 ghost use Rattle.words.specs.Words.{wordAt, putWords};
 
@@ -43,26 +44,79 @@ pub fn put_bytes(o: &mut [u8], at: usize, w: u64)
     o[at + 7] = (w / 72057594037927936 % 256) as u8;
 }
 
-// m columns of bytes, from the front of b, become columns w, w + 1 .. of the cell.
-pub fn load(s: &mut [u16], w: usize, b: &[u8], m: usize)
-    requires { ⌜ (4 * (w + m) ≤ length (now s)) × (8 * m ≤ length (now b)) ⌝ }
-    ensures { λ r. ⌜ now (s .exit) ≡ putWords (now (s .entry)) w m (λ j. pack 8 (λ i. getD (now (b .entry)) (8 * j + i) 0)) ⌝ }
+// m columns of bytes, from a place of b on, become columns w, w + 1 .. of the cell.
+pub fn load(s: &mut [u16], w: usize, b: &[u8], at: usize, m: usize)
+    requires { ⌜ (4 * (w + m) ≤ length (now s)) × (at + 8 * m ≤ length (now b)) ⌝ }
+    ensures { λ r. ⌜ now (s .exit) ≡ putWords (now (s .entry)) w m (λ j. pack 8 (λ i. getD (now (b .entry)) (at + 8 * j + i) 0)) ⌝ }
 {
     let mut j: usize = 0;
     while j < m {
-        words::put_word(s, w + j, bytes_at(b, 8 * j));
+        words::put_word(s, w + j, bytes_at(b, at + 8 * j));
         j += 1;
     }
 }
 
-// The first m columns of the cell become the first 8 m bytes of o.
-pub fn store(s: &[u16], o: &mut [u8], m: usize)
-    requires { ⌜ (4 * m ≤ length (now s)) × (8 * m ≤ length (now o)) ⌝ }
-    ensures { λ r. ⌜ now (o .exit) ≡ tab (8 * m) (λ n. byteOf (wordAt (now (s .entry)) (n / 8)) (n % 8)) ++ drop (8 * m) (now (o .entry)) ⌝ }
+// The same, added modulo 2 to what stands there.
+pub fn xor_in(s: &mut [u16], w: usize, b: &[u8], at: usize, m: usize)
+    requires { ⌜ (4 * (w + m) ≤ length (now s)) × (at + 8 * m ≤ length (now b)) ⌝ }
+    ensures { λ r. ⌜ now (s .exit) ≡ putWords (now (s .entry)) w m (λ j. xor (wordAt (now (s .entry)) (w + j)) (pack 8 (λ i. getD (now (b .entry)) (at + 8 * j + i) 0))) ⌝ }
 {
     let mut j: usize = 0;
     while j < m {
-        put_bytes(o, 8 * j, words::word_at(s, j));
+        let x = words::word_at(s, w + j);
+        words::put_word(s, w + j, field::x64(x, bytes_at(b, at + 8 * j)));
         j += 1;
+    }
+}
+
+// Columns w, w + 1 .. of the cell become 8 m bytes of o, from a place on.
+pub fn store(s: &[u16], w: usize, o: &mut [u8], at: usize, m: usize)
+    requires { ⌜ (4 * (w + m) ≤ length (now s)) × (at + 8 * m ≤ length (now o)) ⌝ }
+    ensures { λ r. ⌜ now (o .exit) ≡ take at (now (o .entry)) ++ (tab (8 * m) (λ n. byteOf (wordAt (now (s .entry)) (w + n / 8)) (n % 8)) ++ drop (at + 8 * m) (now (o .entry))) ⌝ }
+{
+    let mut j: usize = 0;
+    while j < m {
+        put_bytes(o, at + 8 * j, words::word_at(s, w + j));
+        j += 1;
+    }
+}
+
+// 8 m bytes of b, from a place on, with the columns w, w + 1 .. added modulo 2, become the same bytes of o.
+pub fn xor_out(s: &[u16], w: usize, b: &[u8], o: &mut [u8], at: usize, m: usize)
+    requires { ⌜ (4 * (w + m) ≤ length (now s)) × (at + 8 * m ≤ length (now b)) × (at + 8 * m ≤ length (now o)) ⌝ }
+    ensures { λ r. ⌜ now (o .exit) ≡ take at (now (o .entry)) ++ (tab (8 * m) (λ n. xor (getD (now (b .entry)) (at + n) 0) (byteOf (wordAt (now (s .entry)) (w + n / 8)) (n % 8))) ++ drop (at + 8 * m) (now (o .entry))) ⌝ }
+{
+    let mut j: usize = 0;
+    while j < m {
+        put_bytes(
+            o,
+            at + 8 * j,
+            field::x64(bytes_at(b, at + 8 * j), words::word_at(s, w + j)),
+        );
+        j += 1;
+    }
+}
+
+// Byte k of the cell.
+fn byte_at(s: &[u16], k: usize) -> u8
+    requires { ⌜ 4 * (k / 8) + 4 ≤ length (now s) ⌝ }
+    ensures { λ r. ⌜ r ≡ byteOf (wordAt (now (s .entry)) (k / 8)) (k % 8) ⌝ }
+{
+    let g = s[k / 2];
+    if k % 2 == 0 {
+        return (g % 256) as u8;
+    }
+    (g / 256) as u8
+}
+
+// n bytes of b, from a place on, with the bytes of the cell from byte k on added modulo 2: what is left of a cell after its whole columns.
+pub fn xor_rest(s: &[u16], k: usize, b: &[u8], o: &mut [u8], at: usize, n: usize)
+    requires { ⌜ (k + n ≤ 2 * length (now s)) × (length (now s) % 4 ≡ 0) × (at + n ≤ length (now b)) × (at + n ≤ length (now o)) ⌝ }
+    ensures { λ r. ⌜ now (o .exit) ≡ take at (now (o .entry)) ++ (tab n (λ i. xor (getD (now (b .entry)) (at + i) 0) (byteOf (wordAt (now (s .entry)) ((k + i) / 8)) ((k + i) % 8))) ++ drop (at + n) (now (o .entry))) ⌝ }
+{
+    let mut i: usize = 0;
+    while i < n {
+        o[at + i] = field::x8(b[at + i], byte_at(s, k + i));
+        i += 1;
     }
 }

@@ -1,15 +1,17 @@
 use borrow.Author.Needs.{needs}
-use mathlib.Core.Path.{_≡_, refl, sym, ap, _∙_}
-use mathlib.Core.List.{_++_}
-use Prim.Native.Nat.{ℕ, _+_, _-_, _*_, _≤_}
+use mathlib.Core.Path.{_≡_, refl, sym, ap, ap₂, subst, _∙_}
+use Prim.Native.Nat.{ℕ, _+_, _-_, _*_, _/_, _%_, _≤_, _<_}
 use native.Mathlib.Omega.{arith}
-use lib.ListN.{getD, drop, length}
+use lib.ListN.{getD, take, drop, length}
 use denote.Ref.{now}
 use Rattle.common.specs.Places.{tab}
+use Rattle.common.proofs.Places.{length-tab}
+use Rattle.common.proofs.Runs.{Run, run-none, run-more, run-sets, run-whole}
+use Rattle.field.specs.Xor.{xor}
 use Rattle.field.specs.Column.{byteOf, pack}
 use Rattle.words.specs.Words.{wordAt, putWords}
-use Rattle.words.proofs.Walks.{length-puts}
-use Rattle.words.proofs.Walks.{puts-more}
+use Rattle.words.proofs.Walks.{length-puts, puts-more, puts-next}
+use Rattle.cells.proofs.Laws.{byte, eight-stored, eight-xored, eight-more, even-byte, odd-byte}
 use Rattle.cells.proofs.load.Statement.{statement}
 use Rattle.cells.proofs.load.Tie as tie
 use Rattle.cells.proofs.load.Reads as reads
@@ -18,51 +20,55 @@ use Rattle.cells.proofs.bytes_at.Reads as bytes-at-reads
 use Rattle.words.proofs.put_word.Reads as put-word-reads
 
 abbrev Inv-loop : tie.InvT-loop
-Inv-loop s₀ w b m j₀ s j = (j ≤ m) × (s ≡ putWords s₀ w j (λ j. pack 8 (λ i. getD b (8 * j + i) 0)))
+Inv-loop s₀ w b at m j₀ s j = (j ≤ m) × (s ≡ putWords s₀ w j (λ j. pack 8 (λ i. getD b (at + 8 * j + i) 0)))
 
 abbrev μ-loop : tie.MeasureT-loop
-μ-loop s₀ w b m j₀ s j = m - j
+μ-loop s₀ w b at m j₀ s j = m - j
 
--- src/lib.rt:52:5
+-- src/lib.rt:53:5
 loop-holds : tie.Need-loop-holds Inv-loop μ-loop
 unfolding putWords
 loop-holds c = (omega arith, refl)
 
--- src/lib.rt:53:28
+-- src/lib.rt:54:28
 add-put-word : tie.Need-add-put-word Inv-loop μ-loop
 add-put-word c = search needs
 
--- src/lib.rt:53:47
+-- src/lib.rt:54:52
 mul-bytes-at : tie.Need-mul-bytes-at Inv-loop μ-loop
 mul-bytes-at c = search needs
 
--- src/lib.rt:53:35
+-- src/lib.rt:54:47
+add-bytes-at : tie.Need-add-bytes-at Inv-loop μ-loop
+add-bytes-at c = search needs
+
+-- src/lib.rt:54:35
 bytes-at-requires : tie.Need-bytes-at-requires Inv-loop μ-loop
 bytes-at-requires c κs = search needs
 
--- src/lib.rt:53:9
-put-word-requires : tie.Need-put-word-requires Inv-loop μ-loop
-put-word-requires c κs = omega (arith, ap length (c .before .before .before .loop .inv .1), length-puts (now (c .before .before .before .before .before .before .args .s)) (c .before .before .before .before .before .before .args .w) (c .before .before .before .loop .j) (λ j. pack 8 (λ i. getD (now (c .before .before .before .before .before .before .args .b)) (8 * j + i) 0)), c .before .before .before .before .before .before .pre)
-
 -- src/lib.rt:54:9
+put-word-requires : tie.Need-put-word-requires Inv-loop μ-loop
+put-word-requires c κs = omega (arith, ap length (c .before .before .before .loop .inv .1), length-puts (now (c .before .before .before .before .before .before .args .s)) (c .before .before .before .before .before .before .args .w) (c .before .before .before .loop .j) (λ j. pack 8 (λ i. getD (now (c .before .before .before .before .before .before .args .b)) (c .before .before .before .before .before .before .args .at + 8 * j + i) 0)), c .before .before .before .before .before .before .pre)
+
+-- src/lib.rt:55:9
 add-j : tie.Need-add-j Inv-loop μ-loop
 add-j c = search needs
 
--- src/lib.rt:52:5
+-- src/lib.rt:53:5
 loop-less : tie.Need-loop-less Inv-loop μ-loop
 loop-less c = search needs
 
--- src/lib.rt:52:5
+-- src/lib.rt:53:5
 loop-again : tie.Need-loop-again Inv-loop μ-loop
-loop-again c = (omega arith, puts-more (now (c .before .before .before .before .before .before .before .before .before .args .s)) (c .before .before .before .before .before .before .loop .s) (c .before .before .put-word .last .0) (c .before .before .before .before .before .before .before .before .before .args .w) (c .before .before .before .before .before .before .loop .j) (λ j. pack 8 (λ i. getD (now (c .before .before .before .before .before .before .before .before .before .args .b)) (8 * j + i) 0)) _ (c .before .before .before .before .before .before .loop .inv .1) (c .before .before .put-word .ensures) (c .before .before .before .bytes-at .ensures))
+loop-again c = (omega arith, puts-more (now (c .before .before .before .before .before .before .before .before .before .args .s)) (c .before .before .before .before .before .before .loop .s) (c .before .before .put-word .last .0) (c .before .before .before .before .before .before .before .before .before .args .w) (c .before .before .before .before .before .before .loop .j) (λ j. pack 8 (λ i. getD (now (c .before .before .before .before .before .before .before .before .before .args .b)) (c .before .before .before .before .before .before .before .before .before .args .at + 8 * j + i) 0)) _ (c .before .before .before .before .before .before .loop .inv .1) (c .before .before .put-word .ensures) (c .before .before .before .bytes-at .ensures))
 
--- src/lib.rt:47:1
+-- src/lib.rt:48:1
 same-length : tie.Need-same-length Inv-loop μ-loop
-same-length c = ap length (c .before .loop .inv .1) ∙ length-puts (now (c .before .before .before .before .args .s)) (c .before .before .before .before .args .w) (c .before .loop .j) (λ j. pack 8 (λ i. getD (now (c .before .before .before .before .args .b)) (8 * j + i) 0))
+same-length c = ap length (c .before .loop .inv .1) ∙ length-puts (now (c .before .before .before .before .args .s)) (c .before .before .before .before .args .w) (c .before .loop .j) (λ j. pack 8 (λ i. getD (now (c .before .before .before .before .args .b)) (c .before .before .before .before .args .at + 8 * j + i) 0))
 
--- src/lib.rt:47:1
+-- src/lib.rt:48:1
 returns : tie.Need-returns Inv-loop μ-loop
-returns c = c .before .loop .inv .1 ∙ ap (λ n. putWords (now (c .before .before .before .before .args .s)) (c .before .before .before .before .args .w) n (λ j. pack 8 (λ i. getD (now (c .before .before .before .before .args .b)) (8 * j + i) 0))) (omega arith)
+returns c = c .before .loop .inv .1 ∙ ap (λ n. putWords (now (c .before .before .before .before .args .s)) (c .before .before .before .before .args .w) n (λ j. pack 8 (λ i. getD (now (c .before .before .before .before .args .b)) (c .before .before .before .before .args .at + 8 * j + i) 0))) (omega arith)
 
 pub load-spec : {M : Type 1} → statement M
 load-spec =
@@ -73,6 +79,7 @@ load-spec =
     loop-holds
     add-put-word
     mul-bytes-at
+    add-bytes-at
     bytes-at-requires
     put-word-requires
     add-j

@@ -1,7 +1,7 @@
 use native.Mathlib.Omega.{arith}
 use lib.ListN.{length-set}
 use denote.Ref.{now}
-use Rattle.cells.proofs.Laws.{sets-eight, bytes, stored-more}
+use Rattle.cells.proofs.Laws.{sets-eight}
 use borrow.Author.Needs.{needs}
 use Rattle.cells.proofs.put_bytes.Statement.{statement}
 use Rattle.cells.proofs.put_bytes.Tie as tie
