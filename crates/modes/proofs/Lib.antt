@@ -1,0 +1,1 @@
+-- Laws and theorems of the modes.
