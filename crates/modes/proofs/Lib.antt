@@ -1,1 +1,4 @@
 -- Laws and theorems of the modes.
+pub mod Blocks
+pub mod Stream
+pub mod Chain
