@@ -2,3 +2,4 @@
 pub mod Blocks
 pub mod Stream
 pub mod Chain
+pub mod Fill
