@@ -3,3 +3,5 @@ pub mod Blocks
 pub mod Stream
 pub mod Chain
 pub mod Fill
+pub mod Mac
+pub mod Counters
