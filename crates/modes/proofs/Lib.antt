@@ -1,0 +1,7 @@
+-- Laws and theorems of the modes.
+pub mod Blocks
+pub mod Stream
+pub mod Chain
+pub mod Fill
+pub mod Mac
+pub mod Counters

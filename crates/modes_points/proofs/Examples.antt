@@ -1,0 +1,1 @@
+-- Examples of Annex В.3 to В.7, computed from the definitions.

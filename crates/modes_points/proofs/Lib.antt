@@ -1,0 +1,2 @@
+-- Worked examples as closed equations.
+pub mod Examples

@@ -1,0 +1,1 @@
+// Worked examples of the modes as closed equations. No code.
