@@ -1,0 +1,3 @@
+-- Opening with keys mixed back is opening; a column swapped is mixed back.
+pub mod Equal
+pub mod Swaps
