@@ -70,8 +70,8 @@ fn swap_words(t: &[u8; 8192], p: &[u8; 1024], s: &mut [u16], m: usize)
 
 // Round keys 1 to r - 1, of c columns each, mixed back in place.
 pub fn keys_back(t: &[u8; 8192], p: &[u8; 1024], ks: &mut [u64], c: usize, r: usize)
-    requires { ⌜ (now t ≡ openTable) × (now p ≡ substitutions) × (c * r ≤ length (now ks)) ⌝ }
-    ensures { λ o. ⌜ Unmixed c r (now (ks .entry)) (now (ks .exit)) ⌝ }
+    requires { ⌜ (now t ≡ openTable) × (now p ≡ substitutions) × (0 < r) × (c * r ≤ length (now ks)) ⌝ }
+    ensures { λ o. ⌜ Unmixed c (c * r) (now (ks .entry)) (now (ks .exit)) ⌝ }
 {
     let end = c * r;
     let mut k = c;

@@ -49,7 +49,7 @@ open-unseal c t K L s e₀ eₜ h =
 
 -- ---- round keys that stand one after another
 
-module _ (c t : ℕ) (ks ks′ : List ℕ) (u : Unmixed c t ks ks′) where
+module _ (c t : ℕ) (ks ks′ : List ℕ) (u : Unmixed c (c * t) ks ks′) where
   first : keysOf c ks′ 0 ≡ keysOf c ks 0
   unfolding keysOf keyAt
   first = tab-ext c _ _ (λ j l. u .outer (c * 0 + j) (_⊎_.inl (omega arith)))

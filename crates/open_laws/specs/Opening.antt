@@ -33,8 +33,8 @@ unmixed w = pack 8 (product backward (byteOf w))
 unfoldable pub swapped : List ℕ → List ℕ → ℕ → ℕ
 swapped t p w = gather t (λ i. getD p (256 * (i % 4) + byteOf w i) 0)
 
--- of round keys that stand one after another, c columns each: keys 1 to t - 1 are mixed back, and all else is as before
-pub record Unmixed (c t : ℕ) (before after : List ℕ) : Type 0 where
+-- of words that stand one after another: those from place a on and before place b are mixed back, and all else is as before
+pub record Unmixed (a b : ℕ) (before after : List ℕ) : Type 0 where
   pub long : length after ≡ length before
-  pub inner : (k : ℕ) → c ≤ k → k < c * t → getD after k 0 ≡ unmixed (getD before k 0)
-  pub outer : (k : ℕ) → (k < c) ⊎ (c * t ≤ k) → getD after k 0 ≡ getD before k 0
+  pub inner : (k : ℕ) → a ≤ k → k < b → getD after k 0 ≡ unmixed (getD before k 0)
+  pub outer : (k : ℕ) → (k < a) ⊎ (b ≤ k) → getD after k 0 ≡ getD before k 0
