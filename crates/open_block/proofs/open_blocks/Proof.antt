@@ -1,3 +1,9 @@
+use mathlib.Core.Path.{_≡_, refl, sym, ap, ap₂, subst, _∙_}
+use Prim.Native.Nat.{ℕ, _+_, _-_, _*_, _/_, _%_, _^_, _≤_, _<_}
+use native.Mathlib.Omega.{arith}
+use lib.ListN.{getD, length}
+use denote.Ref.{now}
+use Rattle.open_laws.proofs.Cells.{walk-unmix, walk-whole}
 use borrow.Author.Needs.{needs}
 use Rattle.open_block.proofs.open_blocks.Statement.{statement}
 use Rattle.open_block.proofs.open_blocks.Tie as tie
@@ -42,7 +48,7 @@ same-length c = search needs
 
 -- src/lib.rt:122:1
 returns : tie.Need-returns
-returns c = ?
+returns c = walk-whole (c .before .before .before .before .before .before .before .before .before .before .before .before .before .before .before .before .before .before .before .before .before .before .args .c) (c .before .before .before .before .before .before .before .before .before .before .before .before .before .before .before .before .before .before .before .before .before .before .args .n) (c .before .before .before .before .before .before .before .before .before .before .before .before .before .before .before .before .before .before .before .before .before .before .args .r) (now (c .before .before .before .before .before .before .before .before .before .before .before .before .before .before .before .before .before .before .before .before .before .before .args .ks)) (now (c .before .before .before .before .before .before .before .before .before .before .before .before .before .before .before .before .before .before .before .before .before .before .args .s)) (c .before .before .before .before .before .before .before .before .before .before .before .before .before .before .before .before .before .before .sub-keys .last .0) (c .before .before .before .before .before .before .before .before .before .before .before .before .before .before .swap-words .last .1 .1 .0) (c .before .before .before .before .before .before .before .before .before .before .walks .last .1 .0) (c .before .before .before .before .before .before .back-blocks .last .1 .1 .1 .0) (c .before .before .sub-keys2 .last .0) (c .before .before .before .before .before .before .before .before .before .before .before .before .before .before .before .before .before .before .sub-keys .ensures) (walk-unmix (c .before .before .before .before .before .before .before .before .before .before .before .before .before .before .before .before .before .before .before .before .before .before .args .c) (c .before .before .before .before .before .before .before .before .before .before .before .before .before .before .before .before .before .before .before .before .before .before .args .n) (now (c .before .before .before .before .before .before .before .before .before .before .before .before .before .before .before .before .before .before .before .before .before .before .args .t)) (now (c .before .before .before .before .before .before .before .before .before .before .before .before .before .before .before .before .before .before .before .before .before .before .args .p)) (c .before .before .before .before .before .before .before .before .before .before .before .before .before .before .before .before .before .before .sub-keys .last .0) (c .before .before .before .before .before .before .before .before .before .before .before .before .before .before .swap-words .last .1 .1 .0) (c .before .before .before .before .before .before .before .before .before .before .before .before .before .before .before .before .before .before .before .before .before .before .pre .0) (c .before .before .before .before .before .before .before .before .before .before .before .before .before .before .before .before .before .before .before .before .before .before .pre .2) (omega (arith, c .before .before .before .before .before .before .before .before .before .before .before .before .before .before .before .before .before .before .sub-keys .kept .0)) (c .before .before .before .before .before .before .before .before .before .before .before .before .before .before .swap-words .ensures)) (c .before .before .before .before .before .before .before .before .before .before .walks .ensures) (c .before .before .before .before .before .before .back-blocks .ensures) (c .before .before .sub-keys2 .ensures)
 
 pub open-blocks-spec : {M : Type 1} → statement M
 open-blocks-spec =
