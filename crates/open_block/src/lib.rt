@@ -1,12 +1,11 @@
 // All blocks of a cell opened: a round walks over all of them, with the table of opening and with keys that are mixed back beforehand.
 ghost use mathlib.Core.Path.{_≡_};
-ghost use Prim.Native.Nat.{_+_, _-_, _*_, _/_, _%_, _≤_, _<_};
+ghost use Prim.Native.Nat.{_+_, _-_, _*_, _/_, _%_, _^_, _≤_, _<_};
 ghost use lib.ListN.{getD, length};
 ghost use Rattle.substitutions.specs.Tables.{substitutions, unsubstitutions};
-ghost use Rattle.lookup.specs.Table.{gather, sealTable, openTable};
+ghost use Rattle.lookup.specs.Table.{openTable};
 ghost use Rattle.words.specs.Words.{wordAt, putWords, Walked};
-ghost use Rattle.kalyna.specs.Block.{moves};
-ghost use Rattle.kalyna.proofs.Rows.{back};
+ghost use Rattle.kalyna.specs.Round.{subKey, unmix};
 ghost use Rattle.rounds.specs.Rounds.{keyAt};
 ghost use Rattle.blocks.specs.Blocks.{Width, keysOf};
 ghost use Rattle.open_laws.specs.Opening.{openRound, openRounds, openWith, swapped, Unmixed};
@@ -55,19 +54,6 @@ fn swap(t: &[u8; 8192], p: &[u8; 1024], w: u64) -> u64
     columns::column(t, a, b, c, d, e, f, g, h)
 }
 
-// The first m columns of a cell swapped.
-fn swap_words(t: &[u8; 8192], p: &[u8; 1024], s: &mut [u16], m: usize)
-    requires { ⌜ 4 * m ≤ length (now s) ⌝ }
-    ensures { λ r. ⌜ now (s .exit) ≡ putWords (now (s .entry)) 0 m (λ j. swapped (now (t .entry)) (now (p .entry)) (wordAt (now (s .entry)) j)) ⌝ }
-{
-    let mut j: usize = 0;
-    while j < m {
-        let x = words::word_at(s, j);
-        words::put_word(s, j, swap(t, p, x));
-        j += 1;
-    }
-}
-
 // Round keys 1 to r - 1, of c columns each, mixed back in place.
 pub fn keys_back(t: &[u8; 8192], p: &[u8; 1024], ks: &mut [u64], c: usize, r: usize)
     requires { ⌜ (now t ≡ openTable) × (now p ≡ substitutions) × (0 < r) × (c * r ≤ length (now ks)) ⌝ }
@@ -108,20 +94,56 @@ fn walks(t: &[u8; 8192], s: &mut [u16], n: usize, c: usize, r: usize, ks: &[u64]
     }
 }
 
-// What is left after the last round: shifted and substituted back. A round with key 0 also mixes back, so it is mixed again.
-fn back_blocks(t: &[u8; 8192], f: &[u8; 8192], u: &[u8; 1024], s: &mut [u16], n: usize, c: usize)
-    requires { ⌜ (now t ≡ openTable) × (now f ≡ sealTable) × (now u ≡ unsubstitutions) × Width c × (4 * (c * n) ≤ length (now s)) ⌝ }
-    ensures { λ o. ⌜ Walked c n (back (moves c) c) (now (s .entry)) (now (s .exit)) ⌝ }
+// Before the rounds: one block, which starts at column w, less the key at a place of ks, and swapped.
+fn start_block(
+    t: &[u8; 8192],
+    p: &[u8; 1024],
+    s: &mut [u16],
+    w: usize,
+    c: usize,
+    ks: &[u64],
+    at: usize,
+)
+    requires { ⌜ (4 * (w + c) ≤ length (now s)) × (at + c ≤ length (now ks)) ⌝ }
+    ensures { λ o. ⌜ now (s .exit) ≡ putWords (now (s .entry)) w c (λ j. swapped (now (t .entry)) (now (p .entry)) ((wordAt (now (s .entry)) (w + j) + 2 ^ 64 - getD (now (ks .entry)) (at + j) 0 % 2 ^ 64) % 2 ^ 64)) ⌝ }
 {
-    let none = [0u64; 8];
-    walk(t, s, n, c, &none, 0);
-    swap_words(f, u, s, c * n);
+    let mut j: usize = 0;
+    while j < c {
+        let x = words::word_at(s, w + j);
+        words::put_word(
+            s,
+            w + j,
+            swap(t, p, std::num::wrapping_sub_u64(x, ks[at + j])),
+        );
+        j += 1;
+    }
+}
+
+// All n blocks less the key at a place of ks, and mixed back.
+fn start_blocks(
+    t: &[u8; 8192],
+    p: &[u8; 1024],
+    s: &mut [u16],
+    n: usize,
+    c: usize,
+    ks: &[u64],
+    at: usize,
+)
+    requires { ⌜ (now t ≡ openTable) × (now p ≡ substitutions) × (4 * (c * n) ≤ length (now s)) × (at + c ≤ length (now ks)) ⌝ }
+    ensures { λ o. ⌜ Walked c n (λ y. unmix c (subKey c (keyAt c (now (ks .entry)) at) y)) (now (s .entry)) (now (s .exit)) ⌝ }
+{
+    let mut i: usize = 0;
+    let mut w: usize = 0;
+    while i < n {
+        start_block(t, p, s, w, c, ks, at);
+        w += c;
+        i += 1;
+    }
 }
 
 // All n blocks of c columns opened, with r rounds and round keys ks that are mixed back.
 pub fn open_blocks(
     t: &[u8; 8192],
-    f: &[u8; 8192],
     p: &[u8; 1024],
     u: &[u8; 1024],
     s: &mut [u16],
@@ -130,12 +152,10 @@ pub fn open_blocks(
     r: usize,
     ks: &[u64],
 )
-    requires { ⌜ (now t ≡ openTable) × (now f ≡ sealTable) × (now p ≡ substitutions) × (now u ≡ unsubstitutions) × Width c × (0 < r) × (4 * (c * n) ≤ length (now s)) × (c * (r + 1) ≤ length (now ks)) ⌝ }
+    requires { ⌜ (now t ≡ openTable) × (now p ≡ substitutions) × (now u ≡ unsubstitutions) × Width c × (0 < r) × (4 * (c * n) ≤ length (now s)) × (c * (r + 1) ≤ length (now ks)) ⌝ }
     ensures { λ o. ⌜ Walked c n (openWith c r (keysOf c (now (ks .entry)))) (now (s .entry)) (now (s .exit)) ⌝ }
 {
-    blocks::sub_keys(s, n, c, ks, c * r);
-    swap_words(t, p, s, c * n);
+    start_blocks(t, p, s, n, c, ks, c * r);
     walks(t, s, n, c, r, ks);
-    back_blocks(t, f, u, s, n, c);
-    blocks::sub_keys(s, n, c, ks, 0);
+    open_last::last_blocks(u, s, n, c, ks, 0);
 }

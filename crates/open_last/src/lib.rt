@@ -38,7 +38,8 @@ fn byte_at(u: &[u8; 1024], i: usize, x: u64) -> u64
 fn column_of(u: &[u8; 1024], a: u64, b: u64, c: u64, d: u64, e: u64, f: u64, g: u64, h: u64) -> u64
     ensures { λ r. ⌜ r ≡ replaced (now (u .entry)) (λ i. byteOf (getD (a ∷ b ∷ c ∷ d ∷ e ∷ f ∷ g ∷ h ∷ []) i 0) i) ⌝ }
 {
-    let p = byte_at(u, 3, h / 72057594037927936 % 256) * 256 + byte_at(u, 2, g / 281474976710656 % 256);
+    let p = byte_at(u, 3, h / 72057594037927936 % 256) * 256
+        + byte_at(u, 2, g / 281474976710656 % 256);
     let q = p * 256 + byte_at(u, 1, f / 1099511627776 % 256);
     let v = q * 256 + byte_at(u, 0, e / 4294967296 % 256);
     let w = v * 256 + byte_at(u, 3, d / 16777216 % 256);

@@ -29,7 +29,7 @@ use Rattle.rounds.proofs.Laws.{looked-open, places-two}
 use Rattle.blocks.specs.Blocks.{Width, keysOf}
 use Rattle.blocks.proofs.Laws.{block-column, puts-more, puts-next}
 use Rattle.open_laws.specs.Opening.{openRound, openRounds, openWith, unmixed, swapped, Unmixed}
-use Rattle.open_laws.proofs.Swaps.{swapped-open, swapped-seal, unmixed-lt}
+use Rattle.open_laws.proofs.Swaps.{swapped-is}
 
 -- ---- a round
 
@@ -71,58 +71,18 @@ key-room c v r m h g = omega (arith, mul-le-mul-left c h, mul-suc c v)
 pub first-key : (c r : ℕ) → 0 < r → c ≤ c * r
 first-key c r h = omega (arith, mul-le-mul-left c h, mul-suc c 0)
 
--- ---- columns replaced one by one
+-- ---- before the rounds
 
--- one more column replaced by g of it
-pub columns-more : (s₀ s s′ : List ℕ) (j : ℕ) (g : ℕ → ℕ) (v : ℕ) → s ≡ putWords s₀ 0 j (λ j. g (wordAt s₀ j)) → s′ ≡ putWord s j v → v ≡ g (wordAt s j)
-    → s′ ≡ putWords s₀ 0 (j + 1) (λ j. g (wordAt s₀ j))
-columns-more s₀ s s′ j g v e r q =
-    puts-more s₀ s s′ 0 j (λ j. g (wordAt s₀ j)) v e (r ∙ ap (λ n. putWord s n v) (sym (zero-add j)))
-    (q ∙ ap g (ap (wordAt s) (sym (zero-add j)) ∙ puts-next s₀ s 0 j (λ j. g (wordAt s₀ j)) e ∙ ap (wordAt s₀) (zero-add j)))
-
--- every column of n blocks replaced by g of it
-pub walk-columns : (c n : ℕ) (g : ℕ → ℕ) (s s′ : List ℕ) → ((x : ℕ) → g x < 2 ^ 64) → 4 * (c * n) ≤ length s → s′ ≡ putWords s 0 (c * n) (λ j. g (wordAt s j))
-    → Walked c n (λ b. tab c (λ j. g (getD b j 0))) s s′
-walk-columns c n g s s′ h r e =
-    record {
-      long = ap length e ∙ length-puts s 0 (c * n) f;
-      done = λ i l. unfold blockAt in tab-ext c (λ j. wordAt s′ (c * i + j)) (λ j. g (getD (blockAt c s i) j 0)) (λ j hj. one i j (within i j l hj) ∙ ap g (sym (block-column c s i j hj)));
-      kept = λ j l. ap (λ y. wordAt y j) e ∙ puts-other s 0 (c * n) f j (_⊎_.inr (subst (λ x. x ≤ j) (sym (zero-add (c * n))) l));
-    }
-  where
-    f : ℕ → ℕ
-    f j = g (wordAt s j)
-
-    within : (i j : ℕ) → i < n → j < c → c * i + j < c * n
-    within i j l hj = omega (arith, mul-le-mul-left c l, mul-suc c i)
-
-    one : (i j : ℕ) → c * i + j < c * n → wordAt s′ (c * i + j) ≡ g (wordAt s (c * i + j))
-    one i j l =
-        ap₂ (λ (y : List ℕ) (k : ℕ). wordAt y k) e (sym (zero-add (c * i + j)))
-        ∙ puts-at s 0 (c * n) f (λ k hk. h (wordAt s k)) (subst (λ x. 4 * x ≤ length s) (sym (zero-add (c * n))) r) (c * i + j) l
-
--- swapped by the table of opening: mixed back
-pub walk-unmix : (c n : ℕ) (t p s s′ : List ℕ) → t ≡ openTable → p ≡ substitutions → 4 * (c * n) ≤ length s → s′ ≡ putWords s 0 (c * n) (λ j. swapped t p (wordAt s j))
-    → Walked c n (unmix c) s s′
-unfolding unmix unmixed
-walk-unmix c n t p s s′ et ep r e =
-    walk-as c n _ _ s s′ (λ i l. tab-ext c _ _ (λ j hj. is (getD (blockAt c s i) j 0)))
-    (walk-columns c n (swapped t p) s s′ (λ x. subst (λ y. y < 2 ^ 64) (sym (is x)) (unmixed-lt x)) r e)
-  where
-    is : (x : ℕ) → swapped t p x ≡ unmixed x
-    is x = ap₂ (λ (t p : List ℕ). swapped t p x) et ep ∙ swapped-open x
-
--- swapped by the table of sealing: mixed
-pub walk-mix : (c n : ℕ) (t p s s′ : List ℕ) → t ≡ sealTable → p ≡ unsubstitutions → 4 * (c * n) ≤ length s → s′ ≡ putWords s 0 (c * n) (λ j. swapped t p (wordAt s j))
-    → Walked c n (mix c) s s′
-unfolding mix
-walk-mix c n t p s s′ et ep r e =
-    walk-as c n _ _ s s′ (λ i l. tab-ext c _ _ (λ j hj. is (getD (blockAt c s i) j 0)))
-    (walk-columns c n (swapped t p) s s′
-    (λ x. subst (λ y. y < 2 ^ 64) (sym (is x)) (pack-lt 8 _ (λ k hk. product-lt forward (byteOf x) (λ i hi. byteOf-lt x i) k))) r e)
-  where
-    is : (x : ℕ) → swapped t p x ≡ pack 8 (product forward (byteOf x))
-    is x = ap₂ (λ (t p : List ℕ). swapped t p x) et ep ∙ swapped-seal x
+-- the key subtracted from each column, which is then swapped by the table of opening
+pub started : (c : ℕ) (t p ks : List ℕ) (at : ℕ) (b : List ℕ) → t ≡ openTable → p ≡ substitutions
+    → tab c (λ j. swapped t p ((getD b j 0 + 2 ^ 64 - getD ks (at + j) 0 % 2 ^ 64) % 2 ^ 64)) ≡ unmix c (subKey c (keyAt c ks at) b)
+unfolding unmix subKey keyAt unmixed
+started c t p ks at b et ep =
+    tab-ext c _ _ (λ j l.
+    swapped-is t p _ et ep
+    ∙ ap unmixed
+    (ap (λ k. (getD b j 0 + 2 ^ 64 - k % 2 ^ 64) % 2 ^ 64) (sym (getD-tab c (λ j. getD ks (at + j) 0) j l))
+    ∙ sym (getD-tab c (λ j. (getD b j 0 + 2 ^ 64 - getD (tab c (λ j. getD ks (at + j) 0)) j 0 % 2 ^ 64) % 2 ^ 64) j l)))
 
 -- ---- the bytes of a swapped column
 
@@ -146,7 +106,7 @@ unmixed-more a k t p ks₀ ks v et ep l m u e =
     }
   where
     is : v ≡ unmixed (getD ks₀ k 0)
-    is = e ∙ ap₂ (λ (t p : List ℕ). swapped t p (getD ks k 0)) et ep ∙ swapped-open (getD ks k 0) ∙ ap unmixed (u .outer k (_⊎_.inr (omega arith)))
+    is = e ∙ swapped-is t p (getD ks k 0) et ep ∙ ap unmixed (u .outer k (_⊎_.inr (omega arith)))
 
     go : (i : ℕ) → Dec (i < k) → a ≤ i → i < k + 1 → getD (set ks k v) i 0 ≡ unmixed (getD ks₀ i 0)
     go i (yes q) h g = getD-set-other ks k i v 0 (λ x. omega arith) ∙ u .inner i h q
@@ -196,51 +156,14 @@ unfolding openRounds
 nears-none c n K v H s₀ s e a =
     record { long = a .long; done = λ i h. sym (ap (λ v. openRounds c K v (blockAt c s i)) e) ∙ a .todo i h; kept = a .kept }
 
--- ---- after the last round
-
--- a round with key 0, mixed again
-pub walk-back : (c n : ℕ) (k s s′ s″ : List ℕ) → ((j : ℕ) → j < c → getD k j 0 ≡ 0) → Walked c n (openRound c k) s s′ → Walked c n (mix c) s′ s″ → Walked c n (back (moves c) c) s s″
-unfolding openRound
-walk-back c n k s s′ s″ z a b =
-    walk-as c n _ _ s s″ (λ i l. ap (mix c) (none (back (moves c) c (blockAt c s i))) ∙ undone (blockAt c s i)) (walk-then c n _ (mix c) s s′ s″ a b)
-  where
-    none : (x : List ℕ) → xorKey c k (unmix c x) ≡ unmix c x
-    none x = unfold xorKey in tab-ext c _ (λ j. getD (unmix c x) j 0) (λ j h. ap (Rattle.field.specs.Xor.xor (getD (unmix c x) j 0)) (z j h) ∙ X.zero-r (getD (unmix c x) j 0))
-        ∙ Rattle.common.proofs.Places.tab-self c (unmix c x) (unmix-state c x .long)
-
-    undone : (x : List ℕ) → mix c (unmix c (back (moves c) c x)) ≡ back (moves c) c x
-    undone x = mix-unmixed c (back (moves c) c x) (unfold back in unsubstitute-state c _)
-
-pub width-le : (c : ℕ) → Width c → 0 + c ≤ 8
-width-le c w = ⊎-elim (λ e. omega arith) (λ w. ⊎-elim (λ e. omega arith) (λ e. omega arith) w) w
-
--- a key of zeros
-abbrev pub noKey : List ℕ
-noKey = 0 ∷ 0 ∷ 0 ∷ 0 ∷ 0 ∷ 0 ∷ 0 ∷ 0 ∷ []
-
-pub key-none : (c j : ℕ) → j < c → getD (keyAt c noKey 0) j 0 ≡ 0
-unfolding keyAt
-key-none c j l = getD-tab c (λ j. getD noKey (0 + j) 0) j l ∙ zeros (0 + j)
-  where
-    zeros : (n : ℕ) → getD noKey n 0 ≡ 0
-    zeros zero = refl
-    zeros (suc zero) = refl
-    zeros (suc (suc zero)) = refl
-    zeros (suc (suc (suc zero))) = refl
-    zeros (suc (suc (suc (suc zero)))) = refl
-    zeros (suc (suc (suc (suc (suc zero))))) = refl
-    zeros (suc (suc (suc (suc (suc (suc zero)))))) = refl
-    zeros (suc (suc (suc (suc (suc (suc (suc zero))))))) = refl
-    zeros (suc (suc (suc (suc (suc (suc (suc (suc n)))))))) = refl
-
 -- ---- the whole
 
-pub walk-whole : (c n t : ℕ) (ks s s₁ s₂ s₃ s₄ s₅ : List ℕ) → Walked c n (subKey c (keyAt c ks (c * t))) s s₁ → Walked c n (unmix c) s₁ s₂ → Walked c n (openRounds c (keysOf c ks) (t - 1)) s₂ s₃
-    → Walked c n (back (moves c) c) s₃ s₄ → Walked c n (subKey c (keyAt c ks 0)) s₄ s₅ → Walked c n (openWith c t (keysOf c ks)) s s₅
+pub walk-whole : (c n t : ℕ) (ks s s₁ s₂ s₃ : List ℕ) → Walked c n (λ y. unmix c (subKey c (keyAt c ks (c * t)) y)) s s₁ → Walked c n (openRounds c (keysOf c ks) (t - 1)) s₁ s₂
+    → Walked c n (λ y. subKey c (keyAt c ks 0) (back (moves c) c y)) s₂ s₃ → Walked c n (openWith c t (keysOf c ks)) s s₃
 unfolding openWith keysOf
-walk-whole c n t ks s s₁ s₂ s₃ s₄ s₅ a b d e f =
-    walk-as c n _ _ s s₅ (λ i l. ap (λ m. subKey c (keyAt c ks m) (back (moves c) c (openRounds c (keysOf c ks) (t - 1) (unmix c (subKey c (keyAt c ks (c * t)) (blockAt c s i)))))) zero-place)
-    (walk-then c n _ _ s s₄ s₅ (walk-then c n _ _ s s₃ s₄ (walk-then c n _ _ s s₂ s₃ (walk-then c n _ _ s s₁ s₂ a b) d) e) f)
+walk-whole c n t ks s s₁ s₂ s₃ a b d =
+    walk-as c n _ _ s s₃ (λ i l. ap (λ m. subKey c (keyAt c ks m) (back (moves c) c (openRounds c (keysOf c ks) (t - 1) (unmix c (subKey c (keyAt c ks (c * t)) (blockAt c s i)))))) zero-place)
+    (walk-then c n _ _ s s₂ s₃ (walk-then c n _ _ s s₁ s₂ a b) d)
   where
     zero-place : 0 ≡ c * 0
     zero-place = omega arith

@@ -44,14 +44,13 @@ module _ (w : ℕ) where
       ∙ gather-open (λ i. sub i (byteOf w i)) (λ i l. sub-lt i (byteOf w i) (byteOf-lt w i))
       ∙ pack-ext 8 _ _ (λ k hk. product-ext backward _ _ (λ i hi. unsub-sub i (byteOf w i) (byteOf-lt w i)) k)
 
-  -- substituted back, and substituted and mixed by the table of sealing: mixed
-  pub swapped-seal : swapped sealTable unsubstitutions w ≡ pack 8 (product forward (byteOf w))
-  unfolding swapped
-  swapped-seal =
-      gather-ext sealTable _ (λ i. unsub i (byteOf w i)) (λ i l. unsub-place i (byteOf w i) (byteOf-lt w i))
-      ∙ gather-seal (λ i. unsub i (byteOf w i)) (λ i l. unsub-lt i (byteOf w i) (byteOf-lt w i))
-      ∙ pack-ext 8 _ _ (λ k hk. product-ext forward _ _ (λ i hi. sub-unsub i (byteOf w i) (byteOf-lt w i)) k)
-
   pub unmixed-lt : unmixed w < 2 ^ 64
   unfolding unmixed
   unmixed-lt = pack-lt 8 _ (λ k hk. product-lt backward (byteOf w) (λ i hi. byteOf-lt w i) k)
+
+module _ (t p : List ℕ) (w : ℕ) (et : t ≡ openTable) (ep : p ≡ substitutions) where
+  pub swapped-is : swapped t p w ≡ unmixed w
+  swapped-is = ap₂ (λ (t p : List ℕ). swapped t p w) et ep ∙ swapped-open w
+
+  pub swapped-lt : swapped t p w < 2 ^ 64
+  swapped-lt = subst (λ x. x < 2 ^ 64) (sym swapped-is) (unmixed-lt w)
