@@ -1,0 +1,2 @@
+-- Laws of the last step.
+pub mod Laws

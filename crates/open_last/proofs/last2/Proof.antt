@@ -1,0 +1,60 @@
+use mathlib.Core.Path.{_≡_, refl, sym, ap, ap₂, subst, _∙_}
+use Prim.Native.Nat.{ℕ, _+_, _-_, _*_, _/_, _%_, _^_, _≤_, _<_}
+use native.Mathlib.Nat.{add-zero, mul-zero}
+use native.Mathlib.Omega.{arith}
+use lib.ListN.{getD, length}
+use denote.Ref.{now}
+use Rattle.words.specs.Words.{wordAt}
+use Rattle.open_last.proofs.Laws.{last-2}
+use borrow.Author.Needs.{needs}
+use Rattle.open_last.proofs.last2.Statement.{statement}
+use Rattle.open_last.proofs.last2.Tie as tie
+use Rattle.open_last.proofs.last2.Reads as reads
+use Rattle.open_last.proofs.last2.Lts as lts
+use Rattle.open_last.proofs.column_of.Reads as column-of-reads
+use Rattle.words.proofs.word_at.Reads as word-at-reads
+
+-- src/lib.rt:55:9
+word-at-requires : tie.Need-word-at-requires
+word-at-requires c κs = search needs
+
+-- src/lib.rt:56:32
+add-word-at : tie.Need-add-word-at
+add-word-at c = search needs
+
+-- src/lib.rt:56:9
+word-at-requires-2 : tie.Need-word-at-requires-2
+word-at-requires-2 c κs = search needs
+
+-- src/lib.rt:58:12
+column-of-requires : tie.Need-column-of-requires
+column-of-requires c κs = search needs
+
+-- src/lib.rt:58:5
+array-write-o : tie.Need-array-write-o
+array-write-o c = search needs
+
+-- src/lib.rt:59:12
+column-of-requires-2 : tie.Need-column-of-requires-2
+column-of-requires-2 c κs = search needs
+
+-- src/lib.rt:59:5
+array-write-o-2 : tie.Need-array-write-o-2
+array-write-o-2 c = search needs
+
+-- src/lib.rt:51:1
+returns : tie.Need-returns
+returns c = record { says = last-2 (now (c .before .before .before .before .before .args .u)) (now (c .before .before .before .before .before .args .s)) (c .before .before .before .before .before .args .w) _ _ _ _ (c .before .before .before .word-at .ensures ∙ ap (wordAt (now (c .before .before .before .before .before .args .s))) (sym (add-zero (c .before .before .before .before .before .args .w)))) (c .before .before .word-at2 .ensures) (c .before .column-of .ensures) (c .column-of2 .ensures) }
+
+pub last2-spec : {M : Type 1} → statement M
+last2-spec =
+    tie.close
+    (tie.spec
+    word-at-requires
+    add-word-at
+    word-at-requires-2
+    column-of-requires
+    array-write-o
+    column-of-requires-2
+    array-write-o-2
+    returns)

@@ -1,0 +1,2 @@
+-- What is left of opening after the last mixing.
+pub mod Last
