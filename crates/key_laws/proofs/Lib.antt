@@ -1,0 +1,5 @@
+-- Laws of the key schedule.
+pub mod Stores
+pub mod Turns
+pub mod Rounds
+pub mod Schedule
