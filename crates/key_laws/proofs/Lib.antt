@@ -2,4 +2,5 @@
 pub mod Stores
 pub mod Turns
 pub mod Rounds
+pub mod Lanes
 pub mod Schedule

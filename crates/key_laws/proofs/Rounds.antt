@@ -91,12 +91,12 @@ unfolding helper helperFrom
 helper-is c kc k s₀ s₁ s₂ s₃ s₄ s₅ h e w₁ w₂ w₃ w₄ w₅ =
     no-key c 1 s₄ s₅ h w₅ .done 0 (omega arith)
     ∙ ap (ssm (moves c) c)
-        (w₄ .done 0 (omega arith) ∙ first-half c kc k _
-        ∙ ap (addKey c (firstHalf c kc k))
-            (no-key c 1 s₂ s₃ h w₃ .done 0 (omega arith)
-            ∙ ap (ssm (moves c) c)
-                (w₂ .done 0 (omega arith) ∙ second-half c kc k _
-                ∙ ap (λ x. xorKey c (secondHalf c kc k) (ssm (moves c) c x)) (w₁ .done 0 (omega arith) ∙ first-half c kc k _ ∙ ap (addKey c (firstHalf c kc k)) e))))
+    (w₄ .done 0 (omega arith) ∙ first-half c kc k _
+    ∙ ap (addKey c (firstHalf c kc k))
+    (no-key c 1 s₂ s₃ h w₃ .done 0 (omega arith)
+    ∙ ap (ssm (moves c) c)
+    (w₂ .done 0 (omega arith) ∙ second-half c kc k _
+    ∙ ap (λ x. xorKey c (secondHalf c kc k) (ssm (moves c) c x)) (w₁ .done 0 (omega arith) ∙ first-half c kc k _ ∙ ap (addKey c (firstHalf c kc k)) e))))
 
 -- ---- the even keys
 
@@ -108,10 +108,10 @@ pub even-is : (c kc n : ℕ) (k h a s₀ s₁ s₂ s₃ ks ks′ : List ℕ) →
 unfolding evenKey evenFrom
 even-is c kc n k h a s₀ s₁ s₂ s₃ ks ks′ g l w₁ x w₂ p =
     spread-as c 0 n _ _ ks ks′
-      (λ e m.
-        ap₂ (addKey c) (l .addend e m)
-          (no-key c n s₂ s₃ g w₂ .done e m
-          ∙ ap (ssm (moves c) c)
-              (x .done e m ∙ ap (xorKey c (keysOf c a e)) (no-key c n s₀ s₁ g w₁ .done e m)
-              ∙ ap₂ (λ (d z : List ℕ). xorKey c d (ssm (moves c) c z)) (l .addend e m) (l .input e m ∙ ap (λ d. addKey c d (evenInput c kc k e)) (l .addend e m)))))
-      p
+    (λ e m.
+    ap₂ (addKey c) (l .addend e m)
+    (no-key c n s₂ s₃ g w₂ .done e m
+    ∙ ap (ssm (moves c) c)
+    (x .done e m ∙ ap (xorKey c (keysOf c a e)) (no-key c n s₀ s₁ g w₁ .done e m)
+    ∙ ap₂ (λ (d z : List ℕ). xorKey c d (ssm (moves c) c z)) (l .addend e m) (l .input e m ∙ ap (λ d. addKey c d (evenInput c kc k e)) (l .addend e m)))))
+    p

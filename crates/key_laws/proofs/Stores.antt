@@ -42,7 +42,7 @@ pub key-stored : (c v : ℕ) (f : ℕ → ℕ) (s s′ : List ℕ) → Stored (c
 unfolding keysOf keyAt
 key-stored c v f s s′ a = tab-ext c _ f (λ j l. a .done j l)
 
-apart : (c v w j : ℕ) → (w ≡ v → ⊥) → j < c → (c * w + j < c * v) ⊎ (c * v + c ≤ c * w + j)
+pub apart : (c v w j : ℕ) → (w ≡ v → ⊥) → j < c → (c * w + j < c * v) ⊎ (c * v + c ≤ c * w + j)
 apart c v w j n l = go (decLt w v)
   where
     go : Dec (w < v) → (c * w + j < c * v) ⊎ (c * v + c ≤ c * w + j)

@@ -157,7 +157,7 @@ module _ (p q x y : ℕ) (f : ℕ → ℕ) where
   joined h g k =
       pack-add p q f
       ∙ ap₂ (λ (a b : ℕ). a * 256 ^ p + b) (pack-ext q _ (byteOf y) k ∙ pack-low q y)
-          (pack-ext p f (byteOf (x / 256 ^ q)) (λ i l. g i l ∙ byte-after x q i) ∙ pack-low p (x / 256 ^ q) ∙ mod-eq-of-lt top)
+      (pack-ext p f (byteOf (x / 256 ^ q)) (λ i l. g i l ∙ byte-after x q i) ∙ pack-low p (x / 256 ^ q) ∙ mod-eq-of-lt top)
       ∙ add-comm (y % 256 ^ q * 256 ^ p) (x / 256 ^ q)
     where
       top : x / 256 ^ q < 256 ^ p
@@ -190,24 +190,24 @@ unfolding oddTurn oddWord pick
 odd-2 k j l st =
     odd-column 2 k j l
     ∙ joined 1 7 (getD k ((j + 2 / 4) % 2) 0) (getD k ((j + 2 / 4 + 1) % 2) 0) (λ i. getD (bytes 2 k) (8 * j + i) 0) (st .fits _ (mod-lt (j + 2 / 4) (omega arith)))
-      (λ i h. odd-byte 2 k j i _ _ l (omega arith) (omega arith) (omega arith))
-      (λ i h. odd-byte 2 k j (1 + i) _ _ l (omega arith) (omega arith) (omega arith))
+    (λ i h. odd-byte 2 k j i _ _ l (omega arith) (omega arith) (omega arith))
+    (λ i h. odd-byte 2 k j (1 + i) _ _ l (omega arith) (omega arith) (omega arith))
 
 odd-4 : (k : List ℕ) (j : ℕ) → j < 4 → State 4 k → Odd 4 k j
 unfolding oddTurn oddWord pick
 odd-4 k j l st =
     odd-column 4 k j l
     ∙ joined 5 3 (getD k ((j + 4 / 4) % 4) 0) (getD k ((j + 4 / 4 + 1) % 4) 0) (λ i. getD (bytes 4 k) (8 * j + i) 0) (st .fits _ (mod-lt (j + 4 / 4) (omega arith)))
-      (λ i h. odd-byte 4 k j i _ _ l (omega arith) (omega arith) (omega arith))
-      (λ i h. odd-byte 4 k j (5 + i) _ _ l (omega arith) (omega arith) (omega arith))
+    (λ i h. odd-byte 4 k j i _ _ l (omega arith) (omega arith) (omega arith))
+    (λ i h. odd-byte 4 k j (5 + i) _ _ l (omega arith) (omega arith) (omega arith))
 
 odd-8 : (k : List ℕ) (j : ℕ) → j < 8 → State 8 k → Odd 8 k j
 unfolding oddTurn oddWord pick
 odd-8 k j l st =
     odd-column 8 k j l
     ∙ joined 5 3 (getD k ((j + 8 / 4) % 8) 0) (getD k ((j + 8 / 4 + 1) % 8) 0) (λ i. getD (bytes 8 k) (8 * j + i) 0) (st .fits _ (mod-lt (j + 8 / 4) (omega arith)))
-      (λ i h. odd-byte 8 k j i _ _ l (omega arith) (omega arith) (omega arith))
-      (λ i h. odd-byte 8 k j (5 + i) _ _ l (omega arith) (omega arith) (omega arith))
+    (λ i h. odd-byte 8 k j i _ _ l (omega arith) (omega arith) (omega arith))
+    (λ i h. odd-byte 8 k j (5 + i) _ _ l (omega arith) (omega arith) (omega arith))
 
 -- column j of an odd key, from two columns of the key before it
 pub odd-word : (c : ℕ) (k : List ℕ) (j : ℕ) → Width c → j < c → State c k → Odd c k j
