@@ -87,10 +87,10 @@ after c r n p h = go (decLt r (n / c))
         small m = omega arith
 
 -- the two passes over a fresh array of 160 columns make the schedule
-pub schedule-is : (c kc r : ℕ) (k h ks₁ ks₂ : List ℕ) → Sized c kc r → h ≡ helper c kc k → Spread c 0 (r / 2 + 1) (evenKey c kc k h) (noughts 160) ks₁
+pub schedule-is : (c kc r : ℕ) (k h ks₁ ks₂ : List ℕ) → Sized c kc → r % 2 ≡ 0 → h ≡ helper c kc k → Spread c 0 (r / 2 + 1) (evenKey c kc k h) (noughts 160) ks₁
     → Spread c 1 (r / 2) (λ e. oddKey c (keysOf c ks₁ (2 * e))) ks₁ ks₂ → ks₂ ≡ scheduleOf c kc r k
 unfolding scheduleOf roundKey pick
-schedule-is c kc r k h ks₁ ks₂ z e E O =
+schedule-is c kc r k h ks₁ ks₂ z er e E O =
     sym (tab-self 160 ks₂ (O .long ∙ E .long)) ∙ tab-ext 160 _ _ (λ n l. one n l (decLt n (c * (r + 1))))
   where
     p : 0 < c
@@ -101,18 +101,18 @@ schedule-is c kc r k h ks₁ ks₂ z e E O =
 
     one : (n : ℕ) → n < 160 → Dec (n < c * (r + 1)) → getD ks₂ n 0 ≡ pick (ltb n (c * (r + 1))) (getD (roundKeyWith c kc k (helper c kc k) (n / c)) (n % c) 0) 0
     one n l (yes m) =
-        place-is c ks₂ n p ∙ ap (λ x. getD x (n % c) 0) (key-in c kc r k h (noughts 160) ks₁ ks₂ (z .even) E O (n / c) (before c r n p m) ∙ ap (λ h. roundKeyWith c kc k h (n / c)) e)
+        place-is c ks₂ n p ∙ ap (λ x. getD x (n % c) 0) (key-in c kc r k h (noughts 160) ks₁ ks₂ er E O (n / c) (before c r n p m) ∙ ap (λ h. roundKeyWith c kc k h (n / c)) e)
         ∙ sym (ap (λ b. pick b (getD (roundKeyWith c kc k (helper c kc k) (n / c)) (n % c) 0) 0) (lt-ltb n (c * (r + 1)) m))
     one n l (no m) =
-        place-is c ks₂ n p ∙ ap (λ x. getD x (n % c) 0) (key-above c kc r k h (noughts 160) ks₁ ks₂ (z .even) E O (n / c) (after c r n p m)) ∙ sym (place-is c (noughts 160) n p) ∙ fresh n l
+        place-is c ks₂ n p ∙ ap (λ x. getD x (n % c) 0) (key-above c kc r k h (noughts 160) ks₁ ks₂ er E O (n / c) (after c r n p m)) ∙ sym (place-is c (noughts 160) n p) ∙ fresh n l
         ∙ sym (ap (λ b. pick b (getD (roundKeyWith c kc k (helper c kc k) (n / c)) (n % c) 0) 0) (le-ltb n (c * (r + 1)) (omega arith)))
 
 -- ---- the keys of the schedule
 
 -- round key v stands at its place
-pub schedule-keys : (c kc r : ℕ) (k : List ℕ) (v : ℕ) → Sized c kc r → v ≤ r → keysOf c (scheduleOf c kc r k) v ≡ roundKey c kc k v
+pub schedule-keys : (c kc r : ℕ) (k : List ℕ) (v : ℕ) → Sized c kc → r ≤ 18 → v ≤ r → keysOf c (scheduleOf c kc r k) v ≡ roundKey c kc k v
 unfolding keysOf keyAt scheduleOf pick
-schedule-keys c kc r k v z l =
+schedule-keys c kc r k v z few l =
     tab-ext c _ (λ j. getD (roundKey c kc k v) j 0) (λ j h.
     getD-tab 160 (λ n. pick (ltb n (c * (r + 1))) (getD (roundKey c kc k (n / c)) (n % c) 0) 0) (c * v + j) (inside j h)
     ∙ ap (λ b. pick b (getD (roundKey c kc k ((c * v + j) / c)) ((c * v + j) % c) 0) 0) (lt-ltb (c * v + j) (c * (r + 1)) (within j h))
@@ -126,4 +126,4 @@ schedule-keys c kc r k v z l =
     most = mul-le-mul-right (r + 1) (width-le c (z .width))
 
     inside : (j : ℕ) → j < c → c * v + j < 160
-    inside j h = omega (arith, within j h, most, z .few)
+    inside j h = omega (arith, within j h, most, few)

@@ -33,8 +33,8 @@ pub width-pos : (c : ℕ) → Width c → 0 < c
 width-pos c w = ⊎-elim (λ e. omega arith) (⊎-elim (λ e. omega arith) (λ e. omega arith)) w
 
 -- the key has 2, 4 or 8 columns too
-pub key-width : (c kc r : ℕ) → Sized c kc r → Width kc
-key-width c kc r z = ⊎-elim (λ e. subst Width (sym e) (z .width)) (λ e. ⊎-elim (two e) (⊎-elim (four e) (eight e)) (z .width)) (z .halves)
+pub key-width : (c kc : ℕ) → Sized c kc → Width kc
+key-width c kc z = ⊎-elim (λ e. subst Width (sym e) (z .width)) (λ e. ⊎-elim (two e) (⊎-elim (four e) (eight e)) (z .width)) (z .halves)
   where
     two : kc ≡ 2 * c → c ≡ 2 → Width kc
     two e q = _⊎_.inr (_⊎_.inl (omega arith))

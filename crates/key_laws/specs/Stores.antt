@@ -2,9 +2,9 @@
 use mathlib.Core.Logic.{_⊎_}
 use mathlib.Core.List.{List}
 use mathlib.Core.Path.{_≡_}
-use Prim.Native.Nat.{ℕ, _+_, _*_, _<_, _≤_}
+use Prim.Native.Nat.{ℕ, _+_, _*_, _%_, _^_, _<_, _≤_}
 use lib.ListN.{getD, length}
-use Rattle.words.specs.Words.{blockAt}
+use Rattle.words.specs.Words.{wordAt, putWords, blockAt}
 use Rattle.kalyna.specs.Round.{addKey}
 use Rattle.kalyna.specs.Keys.{constant, evenInput}
 use Rattle.blocks.specs.Blocks.{keysOf}
@@ -30,3 +30,8 @@ pub record Laned (c n : ℕ) (F : ℕ → List ℕ → List ℕ) (before after :
 pub record Lanes (c kc n : ℕ) (k h a s : List ℕ) : Type 0 where
   pub addend : (e : ℕ) → e < n → keysOf c a e ≡ addKey c (constant c e) h
   pub input : (e : ℕ) → e < n → blockAt c s e ≡ addKey c (keysOf c a e) (evenInput c kc k e)
+
+-- the lane from column w on: in a the addends, h and g added; in s the key k turned by u columns, and those added
+pub record Lane (c kc : ℕ) (k h : List ℕ) (w u g : ℕ) (a a′ s s′ : List ℕ) : Type 0 where
+  pub addends : Stored w c (λ j. (wordAt h j + g) % 2 ^ 64) a a′
+  pub inputs : s′ ≡ putWords s w c (λ j. (getD k ((j + u) % kc) 0 + (wordAt h j + g) % 2 ^ 64) % 2 ^ 64)

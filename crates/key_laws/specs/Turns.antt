@@ -6,13 +6,11 @@ use lib.Dec.{eqb}
 use Rattle.common.specs.Choice.{pick}
 use Rattle.blocks.specs.Blocks.{Width}
 
--- document 003, table 6.1: c columns of state, kc of key, r rounds
-pub record Sized (c kc r : ℕ) : Type 0 where
+-- document 003, table 6.1: c columns of state and kc of key
+pub record Sized (c kc : ℕ) : Type 0 where
   pub width : Width c
   pub halves : (kc ≡ c) ⊎ (kc ≡ 2 * c)
   pub most : kc ≤ 8
-  pub even : r % 2 ≡ 0
-  pub few : r ≤ 18
 
 -- by how many columns the key is turned for even index 2 e, with the columns before its high half
 unfoldable pub laneTurn : ℕ → ℕ → ℕ → ℕ

@@ -1,0 +1,2 @@
+-- Laws of sealing all blocks of a cell.
+pub mod Laws

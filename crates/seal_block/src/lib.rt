@@ -1,0 +1,60 @@
+// All blocks of a cell sealed: rounds outermost, each a walk over the blocks.
+ghost use mathlib.Core.Path.{_≡_};
+ghost use Prim.Native.Nat.{_+_, _-_, _*_, _≤_, _<_};
+ghost use lib.ListN.{length};
+ghost use Rattle.lookup.specs.Table.{sealTable};
+ghost use Rattle.words.specs.Words.{Walked};
+ghost use Rattle.kalyna.specs.Round.{addKey, xorKey, ssm};
+ghost use Rattle.kalyna.specs.Block.{moves, rounds, seal};
+ghost use Rattle.rounds.specs.Rounds.{keyAt};
+ghost use Rattle.blocks.specs.Blocks.{Width, keysOf};
+
+// One round, straight for the width: substitute, shift, mix, and the key at a place of ks added modulo 2.
+pub fn round(tab: &[u8; 8192], s: &mut [u16], n: usize, c: usize, ks: &[u64], at: usize)
+    requires { ⌜ (now tab ≡ sealTable) × Width c × (4 * (c * n) ≤ length (now s)) × (at + c ≤ length (now ks)) ⌝ }
+    ensures { λ r. ⌜ Walked c n (λ x. xorKey c (keyAt c (now (ks .entry)) at) (ssm (moves c) c x)) (now (s .entry)) (now (s .exit)) ⌝ }
+{
+    if c == 2 {
+        seal_rounds::walk2(tab, s, n, ks, at);
+        return;
+    }
+    if c == 4 {
+        seal_rounds::walk4(tab, s, n, ks, at);
+        return;
+    }
+    seal_rounds::walk8(tab, s, n, ks, at);
+}
+
+// Rounds 1 to t - 1 of t.
+fn rounds_of(tab: &[u8; 8192], s: &mut [u16], n: usize, c: usize, t: usize, ks: &[u64])
+    requires { ⌜ (now tab ≡ sealTable) × Width c × (0 < t) × (4 * (c * n) ≤ length (now s)) × (c * (t + 1) ≤ length (now ks)) ⌝ }
+    ensures { λ r. ⌜ Walked c n (λ x. rounds c (keysOf c (now (ks .entry))) x (t - 1)) (now (s .entry)) (now (s .exit)) ⌝ }
+{
+    let mut m: usize = 0;
+    let mut at = c;
+    while m + 1 < t {
+        round(tab, s, n, c, ks, at);
+        at += c;
+        m += 1;
+    }
+}
+
+// The last round, whose key is added modulo 2^64.
+fn last_round(tab: &[u8; 8192], s: &mut [u16], n: usize, c: usize, ks: &[u64], at: usize)
+    requires { ⌜ (now tab ≡ sealTable) × Width c × (4 * (c * n) ≤ length (now s)) × (at + c ≤ length (now ks)) ⌝ }
+    ensures { λ r. ⌜ Walked c n (λ x. addKey c (keyAt c (now (ks .entry)) at) (ssm (moves c) c x)) (now (s .entry)) (now (s .exit)) ⌝ }
+{
+    let none = [0u64; 8];
+    round(tab, s, n, c, &none, 0);
+    blocks::add_keys(s, n, c, ks, at);
+}
+
+// The block transformation on n blocks of c columns, t rounds; ks has the round keys 0 to t one after another.
+pub fn seal_blocks(tab: &[u8; 8192], s: &mut [u16], n: usize, c: usize, t: usize, ks: &[u64])
+    requires { ⌜ (now tab ≡ sealTable) × Width c × (0 < t) × (4 * (c * n) ≤ length (now s)) × (c * (t + 1) ≤ length (now ks)) × (t ≤ 18) ⌝ }
+    ensures { λ r. ⌜ Walked c n (seal c t (keysOf c (now (ks .entry)))) (now (s .entry)) (now (s .exit)) ⌝ }
+{
+    blocks::add_keys(s, n, c, ks, 0);
+    rounds_of(tab, s, n, c, t, ks);
+    last_round(tab, s, n, c, ks, c * t);
+}

@@ -1,0 +1,2 @@
+-- Sizes and suites.
+pub mod Suites
