@@ -1,3 +1,9 @@
+use mathlib.Core.Path.{_≡_, refl, sym, ap, _∙_}
+use Prim.Native.Nat.{_+_}
+use native.Mathlib.Nat.{add-zero}
+use lib.ListN.{getD}
+use denote.Ref.{now}
+use Rattle.columns.proofs.Lookup.{eight-bytes}
 use borrow.Author.Needs.{needs}
 use Rattle.loads.proofs.column_at.Statement.{statement}
 use Rattle.loads.proofs.column_at.Tie as tie
@@ -155,7 +161,7 @@ add-result c = search needs
 
 -- src/lib.rt:15:1
 returns : tie.Need-returns
-returns c = ?
+returns c = eight-bytes (λ k. getD (now (c .before .before .before .before .before .before .before .before .before .before .before .before .before .before .before .before .before .args .b)) (c .before .before .before .before .before .before .before .before .before .before .before .before .before .before .before .before .before .args .at + k) 0) _ _ _ _ _ _ _ _ (c .before .before .before .before .before .before .before .before .before .before .before .before .before .before .wide .ensures .0) (c .before .before .before .before .before .before .before .before .before .before .before .before .wide2 .ensures .0) (c .before .before .before .before .before .before .before .before .before .before .wide3 .ensures .0) (c .before .before .before .before .before .before .before .before .wide4 .ensures .0) (c .before .before .before .before .before .before .wide5 .ensures .0) (c .before .before .before .before .wide6 .ensures .0) (c .before .before .wide7 .ensures .0) (c .wide8 .ensures .0 ∙ ap (λ n. getD (now (c .before .before .before .before .before .before .before .before .before .before .before .before .before .before .before .before .before .args .b)) n 0) (sym (add-zero (c .before .before .before .before .before .before .before .before .before .before .before .before .before .before .before .before .before .args .at))))
 
 pub column-at-spec : {M : Type 1} → statement M
 column-at-spec =
