@@ -3,4 +3,5 @@ pub mod Stores
 pub mod Turns
 pub mod Rounds
 pub mod Lanes
+pub mod Loops
 pub mod Schedule

@@ -4,11 +4,11 @@ use mathlib.Core.Logic.{_⊎_, ⊎-elim}
 use mathlib.Core.Bool.{Bool, true, false}
 use mathlib.Core.List.{List}
 use Prim.Native.Nat.{ℕ, zero, suc, _+_, _-_, _*_, _/_, _%_, _^_, _<_, _≤_}
-use native.Mathlib.Nat.{mod-lt, mod-eq-of-lt, pow-suc, div-div-eq-div-mul, div-lt-iff-lt-mul, add-comm, mul-assoc, add-zero, zero-add, mul-one, mod-one, suc-add, add-assoc}
+use native.Mathlib.Nat.{mod-lt, mod-eq-of-lt, pow-suc, div-div-eq-div-mul, div-lt-iff-lt-mul, add-comm, mul-assoc, add-zero, zero-add, mul-one, mod-one, suc-add, add-assoc, mul-le-mul-right}
 use native.Mathlib.Decide.{decLt, ℕ-discrete}
 use native.Mathlib.Omega.{arith}
 use lib.Dec.{eqb}
-use lib.Arith.{mod-mul}
+use lib.Arith.{mod-mul, digits-lt}
 use lib.Pow.{pow-add}
 use lib.Bits.{bitAnd, and-mask}
 use lib.ListN.{getD, length, take, drop}
@@ -68,13 +68,20 @@ pick-false : (b : Bool) (x y : List ℕ) → b ≡ false → pick b x y ≡ y
 unfolding pick
 pick-false b x y e = ap (λ b. pick b x y) e
 
-same-turn : (c kc e : ℕ) → c ≡ kc → laneTurn c kc e ≡ e
+pub same-turn : (c kc e : ℕ) → c ≡ kc → laneTurn c kc e ≡ e
 unfolding laneTurn pick
 same-turn c kc e h = ap (λ b. pick b e (e / 2 + e % 2 * c)) (eq-eqb c kc h)
 
-other-turn : (c kc e : ℕ) → (c ≡ kc → ⊥) → laneTurn c kc e ≡ e / 2 + e % 2 * c
+pub other-turn : (c kc e : ℕ) → (c ≡ kc → ⊥) → laneTurn c kc e ≡ e / 2 + e % 2 * c
 unfolding laneTurn pick
 other-turn c kc e h = ap (λ b. pick b e (e / 2 + e % 2 * c)) (ne-eqb c kc h)
+
+-- it is small
+pub turn-le : (c e : ℕ) → c ≤ 8 → e ≤ 9 → e / 2 + e % 2 * c ≤ 16
+turn-le c e h l = omega (arith, mul-le-mul-right c (bit (omega arith)))
+  where
+    bit : e % 2 < 2 → e % 2 ≤ 1
+    bit l = omega arith
 
 turned-at : (kc : ℕ) (k : List ℕ) (n j : ℕ) → j < kc → getD (turnKey kc k n) j 0 ≡ getD k ((j + n) % kc) 0
 unfolding turnKey
@@ -215,3 +222,27 @@ odd-word c k j w = ⊎-elim (at 2 (odd-2 k j)) (⊎-elim (at 4 (odd-4 k j)) (at 
   where
     at : (d : ℕ) → (j < d → State d k → Odd d k j) → c ≡ d → j < c → State c k → Odd c k j
     at d h e = subst (λ c. j < c → State c k → Odd c k j) (sym e) h
+
+-- ---- a word of an odd key by the code's cases
+
+pub odd-two : (c x y : ℕ) → c ≡ 2 → x / 72057594037927936 + y % 72057594037927936 * 256 ≡ oddWord c x y
+unfolding oddWord pick
+odd-two c x y e =
+    sym (ap (λ b. pick b (x / 72057594037927936 + y % 72057594037927936 * 256) (x / 16777216 + y % 16777216 * 1099511627776)) (eq-eqb c 2 e))
+
+pub odd-more : (c x y : ℕ) → (c ≡ 2 → ⊥) → x / 16777216 + y % 16777216 * 1099511627776 ≡ oddWord c x y
+unfolding oddWord pick
+odd-more c x y e =
+    sym (ap (λ b. pick b (x / 72057594037927936 + y % 72057594037927936 * 256) (x / 16777216 + y % 16777216 * 1099511627776)) (ne-eqb c 2 e))
+
+pub two-fits : (x y : ℕ) → x < 2 ^ 64 → x / 72057594037927936 + y % 72057594037927936 * 256 < 2 ^ 64
+two-fits x y h =
+    subst (λ n. n < 2 ^ 64) (add-comm (y % 72057594037927936 * 256) (x / 72057594037927936))
+    (digits-lt {q = y % 72057594037927936} {m = 72057594037927936} {r = x / 72057594037927936} {c = 256} (mod-lt y (omega arith))
+    (div-lt-iff-lt-mul {k = 72057594037927936} {x = x} {y = 256} (omega arith) .1 h))
+
+pub more-fits : (x y : ℕ) → x < 2 ^ 64 → x / 16777216 + y % 16777216 * 1099511627776 < 2 ^ 64
+more-fits x y h =
+    subst (λ n. n < 2 ^ 64) (add-comm (y % 16777216 * 1099511627776) (x / 16777216))
+    (digits-lt {q = y % 16777216} {m = 16777216} {r = x / 16777216} {c = 1099511627776} (mod-lt y (omega arith))
+    (div-lt-iff-lt-mul {k = 16777216} {x = x} {y = 1099511627776} (omega arith) .1 h))

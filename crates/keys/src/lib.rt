@@ -28,6 +28,14 @@ fn helper_key(t: &[u8; 8192], k: &[u64], c: usize, kc: usize) -> [u16; 32]
     s
 }
 
+// The remainder by a width.
+fn around(n: usize, c: usize) -> usize
+    requires { ⌜ Width c ⌝ }
+    ensures { λ r. ⌜ r ≡ n % c ⌝ }
+{
+    n & (c - 1)
+}
+
 // 6.5.2: by how many columns the key is turned for even index 2 e.
 fn turn_of(c: usize, kc: usize, e: usize) -> usize
     requires { ⌜ (c ≤ 8) × (e ≤ 9) ⌝ }
@@ -40,7 +48,17 @@ fn turn_of(c: usize, kc: usize, e: usize) -> usize
 }
 
 // One lane, from column w on: its addend is the helper key h and the constant g, and it starts as the key turned by u columns, with the addend.
-fn lane(s: &mut [u16], a: &mut [u64], w: usize, h: &[u16], g: u64, k: &[u64], c: usize, kc: usize, u: usize)
+fn lane(
+    s: &mut [u16],
+    a: &mut [u64],
+    w: usize,
+    h: &[u16],
+    g: u64,
+    k: &[u64],
+    c: usize,
+    kc: usize,
+    u: usize,
+)
     requires { ⌜ Width kc × (length (now k) ≡ kc) × (c ≤ 8) × (u ≤ 16) × (4 * c ≤ length (now h)) × (w + c ≤ length (now a)) × (4 * (w + c) ≤ length (now s)) ⌝ }
     ensures { λ r. ⌜ Lane c kc (now (k .entry)) (now (h .entry)) w u g (now (a .entry)) (now (a .exit)) (now (s .entry)) (now (s .exit)) ⌝ }
 {
@@ -48,7 +66,11 @@ fn lane(s: &mut [u16], a: &mut [u64], w: usize, h: &[u16], g: u64, k: &[u64], c:
     while j < c {
         let x = std::num::wrapping_add_u64(words::word_at(h, j), g);
         a[w + j] = x;
-        words::put_word(s, w + j, std::num::wrapping_add_u64(k[(j + u) & (kc - 1)], x));
+        words::put_word(
+            s,
+            w + j,
+            std::num::wrapping_add_u64(k[around(j + u, kc)], x),
+        );
         j += 1;
     }
 }
@@ -144,8 +166,8 @@ fn odd_key(ks: &mut [u64], at: usize, c: usize)
     let q = c / 4;
     let mut j: usize = 0;
     while j < c {
-        let x = ks[at + ((j + q) & (c - 1))];
-        let y = ks[at + ((j + q + 1) & (c - 1))];
+        let x = ks[at + around(j + q, c)];
+        let y = ks[at + around(j + q + 1, c)];
         ks[at + c + j] = odd_word(c, x, y);
         j += 1;
     }
