@@ -136,3 +136,18 @@ odd-is c i at s₀ s w e q h =
 
     st : State c (keysOf c s₀ (2 * i))
     st = unfold keysOf keyAt in tab-state c _ (λ j l. h (c * (2 * i) + j))
+
+-- one more odd key
+pub odd-keys-more : (c i at : ℕ) (ks₀ ks ks′ : List ℕ) → Width c → at ≡ c * (2 * i + 0) → Spread c 1 i (λ e. oddKey c (keysOf c ks₀ (2 * e))) ks₀ ks → ((j : ℕ) → getD ks₀ j 0 < 2 ^ 64)
+    → Stored (at + c) c (λ j. oddWord c (getD ks (at + (j + c / 4) % c) 0) (getD ks (at + (j + c / 4 + 1) % c) 0)) ks ks′ → Spread c 1 (i + 1) (λ e. oddKey c (keysOf c ks₀ (2 * e))) ks₀ ks′
+odd-keys-more c i at ks₀ ks ks′ w e a h b =
+    spread-more c 1 i (λ e. oddKey c (keysOf c ks₀ (2 * e))) ks₀ ks ks′ _ (at + c) a after b (odd-is c i at ks₀ ks w place (a .kept (2 * i) (λ n l q. omega arith)) h)
+  where
+    place : at ≡ c * (2 * i)
+    place = e ∙ ap (λ x. c * x) none
+      where
+        none : 2 * i + 0 ≡ 2 * i
+        none = omega arith
+
+    after : at + c ≡ c * (2 * i + 1)
+    after = ap (λ x. x + c) place ∙ sym (mul-suc c (2 * i)) ∙ ap (λ x. c * x) (sym (add-one (2 * i)))

@@ -76,6 +76,3 @@ pair-room c i n at l e h r = omega (arith, mul-le-mul-left c inside, mul-suc c (
 -- lane i of n
 pub lane-room : (c i n w l : ℕ) → w ≡ c * i → i < n → c * n ≤ l → w + c ≤ l
 lane-room c i n w l e h r = omega (arith, mul-le-mul-left c h, mul-suc c i)
-
-pub first-place : (c p : ℕ) → c * p ≡ c * (2 * 0 + p)
-first-place c p = ap (λ x. c * x) (sym (zero-add p))

@@ -1,3 +1,12 @@
+use mathlib.Core.Path.{_≡_, refl, sym, ap, ap₂, subst, _∙_}
+use Prim.Native.Nat.{ℕ, _+_, _-_, _*_, _/_, _%_, _^_, _≤_, _<_}
+use native.Mathlib.Omega.{arith}
+use lib.ListN.{getD, length}
+use denote.Ref.{now}
+use Rattle.words.specs.Words.{blockAt}
+use Rattle.words.proofs.Laws.{length-put}
+use Rattle.key_laws.proofs.Turns.{width-le, width-pos, halves-le}
+use Rattle.key_laws.proofs.Rounds.{noughts, start-is, helper-is}
 use borrow.Author.Needs.{needs}
 use Rattle.keys.proofs.helper_key.Statement.{statement}
 use Rattle.keys.proofs.helper_key.Tie as tie
@@ -13,11 +22,11 @@ slice-aggregate-put-word c = search needs
 
 -- src/lib.rt:22:33
 add-put-word : tie.Need-add-put-word
-add-put-word c = ?
+add-put-word c = omega (arith, width-le (c .before .before .args .c) (c .before .before .pre .1 .width), c .before .before .pre .1 .most)
 
 -- src/lib.rt:22:33
 add-put-word-2 : tie.Need-add-put-word-2
-add-put-word-2 c = ?
+add-put-word-2 c = omega (arith, width-le (c .before .before .args .c) (c .before .before .pre .1 .width), c .before .before .pre .1 .most)
 
 -- src/lib.rt:22:5
 put-word-requires : tie.Need-put-word-requires
@@ -29,7 +38,7 @@ slice-aggregate-add-keys c = search needs
 
 -- src/lib.rt:23:5
 add-keys-requires : tie.Need-add-keys-requires
-add-keys-requires c κs = ?
+add-keys-requires c κs = (omega (arith, width-le (c .before .before .before .before .before .args .c) (c .before .before .before .before .before .pre .1 .width), c .before .before .before .before .before .pre .1 .most, ap length (c .before .before .put-word .ensures) ∙ length-put (noughts 32) 0 (c .before .before .before .before .before .args .c + c .before .before .before .before .before .args .kc + 1)), omega (arith, halves-le (c .before .before .before .before .before .args .c) (c .before .before .before .before .before .args .kc) (c .before .before .before .before .before .pre .1 .halves)))
 
 -- src/lib.rt:24:26
 slice-aggregate-round : tie.Need-slice-aggregate-round
@@ -37,11 +46,11 @@ slice-aggregate-round c = search needs
 
 -- src/lib.rt:24:43
 sub-round : tie.Need-sub-round
-sub-round c = ?
+sub-round c = halves-le (c .before .before .before .before .before .before .before .before .args .c) (c .before .before .before .before .before .before .before .before .args .kc) (c .before .before .before .before .before .before .before .before .pre .1 .halves)
 
 -- src/lib.rt:24:5
 round-requires : tie.Need-round-requires
-round-requires c κs = ?
+round-requires c κs = (c .before .before .before .before .before .before .before .before .pre .0, c .before .before .before .before .before .before .before .before .pre .1 .width, omega (arith, width-le (c .before .before .before .before .before .before .before .before .args .c) (c .before .before .before .before .before .before .before .before .pre .1 .width), c .before .before .before .before .before .before .before .before .pre .1 .most, ap length (c .before .before .before .before .before .put-word .ensures) ∙ length-put (noughts 32) 0 (c .before .before .before .before .before .before .before .before .args .c + c .before .before .before .before .before .before .before .before .args .kc + 1), c .before .before .add-keys .ensures .long), omega (arith, halves-le (c .before .before .before .before .before .before .before .before .args .c) (c .before .before .before .before .before .before .before .before .args .kc) (c .before .before .before .before .before .before .before .before .pre .1 .halves)))
 
 -- src/lib.rt:25:26
 slice-aggregate-round-2 : tie.Need-slice-aggregate-round-2
@@ -53,7 +62,7 @@ slice-aggregate-round-3 c = search needs
 
 -- src/lib.rt:25:5
 round-requires-2 : tie.Need-round-requires-2
-round-requires-2 c κs = ?
+round-requires-2 c κs = (c .before .before .before .before .before .before .before .before .before .before .before .before .pre .0, c .before .before .before .before .before .before .before .before .before .before .before .before .pre .1 .width, omega (arith, width-le (c .before .before .before .before .before .before .before .before .before .before .before .before .args .c) (c .before .before .before .before .before .before .before .before .before .before .before .before .pre .1 .width), c .before .before .before .before .before .before .before .before .before .before .before .before .pre .1 .most, ap length (c .before .before .before .before .before .before .before .before .before .put-word .ensures) ∙ length-put (noughts 32) 0 (c .before .before .before .before .before .before .before .before .before .before .before .before .args .c + c .before .before .before .before .before .before .before .before .before .before .before .before .args .kc + 1), c .before .before .before .before .before .before .add-keys .ensures .long, c .before .before .before .round .ensures .long), omega (arith, width-le (c .before .before .before .before .before .before .before .before .before .before .before .before .args .c) (c .before .before .before .before .before .before .before .before .before .before .before .before .pre .1 .width), c .before .before .before .before .before .before .before .before .before .before .before .before .pre .1 .most))
 
 -- src/lib.rt:26:22
 slice-aggregate-add-keys-2 : tie.Need-slice-aggregate-add-keys-2
@@ -61,7 +70,7 @@ slice-aggregate-add-keys-2 c = search needs
 
 -- src/lib.rt:26:5
 add-keys-requires-2 : tie.Need-add-keys-requires-2
-add-keys-requires-2 c κs = ?
+add-keys-requires-2 c κs = (omega (arith, width-le (c .before .before .before .before .before .before .before .before .before .before .before .before .before .before .before .args .c) (c .before .before .before .before .before .before .before .before .before .before .before .before .before .before .before .pre .1 .width), c .before .before .before .before .before .before .before .before .before .before .before .before .before .before .before .pre .1 .most, ap length (c .before .before .before .before .before .before .before .before .before .before .before .before .put-word .ensures) ∙ length-put (noughts 32) 0 (c .before .before .before .before .before .before .before .before .before .before .before .before .before .before .before .args .c + c .before .before .before .before .before .before .before .before .before .before .before .before .before .before .before .args .kc + 1), c .before .before .before .before .before .before .before .before .before .add-keys .ensures .long, c .before .before .before .before .before .before .round .ensures .long, c .before .before .round2 .ensures .long), omega (arith, halves-le (c .before .before .before .before .before .before .before .before .before .before .before .before .before .before .before .args .c) (c .before .before .before .before .before .before .before .before .before .before .before .before .before .before .before .args .kc) (c .before .before .before .before .before .before .before .before .before .before .before .before .before .before .before .pre .1 .halves)))
 
 -- src/lib.rt:27:26
 slice-aggregate-round-4 : tie.Need-slice-aggregate-round-4
@@ -73,11 +82,11 @@ slice-aggregate-round-5 c = search needs
 
 -- src/lib.rt:27:5
 round-requires-3 : tie.Need-round-requires-3
-round-requires-3 c κs = ?
+round-requires-3 c κs = (c .before .before .before .before .before .before .before .before .before .before .before .before .before .before .before .before .before .before .before .pre .0, c .before .before .before .before .before .before .before .before .before .before .before .before .before .before .before .before .before .before .before .pre .1 .width, omega (arith, width-le (c .before .before .before .before .before .before .before .before .before .before .before .before .before .before .before .before .before .before .before .args .c) (c .before .before .before .before .before .before .before .before .before .before .before .before .before .before .before .before .before .before .before .pre .1 .width), c .before .before .before .before .before .before .before .before .before .before .before .before .before .before .before .before .before .before .before .pre .1 .most, ap length (c .before .before .before .before .before .before .before .before .before .before .before .before .before .before .before .before .put-word .ensures) ∙ length-put (noughts 32) 0 (c .before .before .before .before .before .before .before .before .before .before .before .before .before .before .before .before .before .before .before .args .c + c .before .before .before .before .before .before .before .before .before .before .before .before .before .before .before .before .before .before .before .args .kc + 1), c .before .before .before .before .before .before .before .before .before .before .before .before .before .add-keys .ensures .long, c .before .before .before .before .before .before .before .before .before .before .round .ensures .long, c .before .before .before .before .before .before .round2 .ensures .long, c .before .before .before .add-keys2 .ensures .long), omega (arith, width-le (c .before .before .before .before .before .before .before .before .before .before .before .before .before .before .before .before .before .before .before .args .c) (c .before .before .before .before .before .before .before .before .before .before .before .before .before .before .before .before .before .before .before .pre .1 .width), c .before .before .before .before .before .before .before .before .before .before .before .before .before .before .before .before .before .before .before .pre .1 .most))
 
 -- src/lib.rt:16:1
 returns : tie.Need-returns
-returns c = ?
+returns c = helper-is (c .before .before .before .before .before .before .before .before .before .before .before .before .before .before .before .before .before .before .before .before .before .args .c) (c .before .before .before .before .before .before .before .before .before .before .before .before .before .before .before .before .before .before .before .before .before .args .kc) (now (c .before .before .before .before .before .before .before .before .before .before .before .before .before .before .before .before .before .before .before .before .before .args .k)) (c .before .before .before .before .before .before .before .before .before .before .before .before .before .before .before .before .before .before .put-word .last .0) (c .before .before .before .before .before .before .before .before .before .before .before .before .before .before .before .add-keys .last .0) (c .before .before .before .before .before .before .before .before .before .before .before .before .round .last .1 .0) (c .before .before .before .before .before .before .before .before .round2 .last .1 .0) (c .before .before .before .before .before .add-keys2 .last .0) (c .before .round3 .last .1 .0) (width-le (c .before .before .before .before .before .before .before .before .before .before .before .before .before .before .before .before .before .before .before .before .before .args .c) (c .before .before .before .before .before .before .before .before .before .before .before .before .before .before .before .before .before .before .before .before .before .pre .1 .width)) (ap (λ x. blockAt (c .before .before .before .before .before .before .before .before .before .before .before .before .before .before .before .before .before .before .before .before .before .args .c) x 0) (c .before .before .before .before .before .before .before .before .before .before .before .before .before .before .before .before .before .before .put-word .ensures) ∙ start-is (c .before .before .before .before .before .before .before .before .before .before .before .before .before .before .before .before .before .before .before .before .before .args .c) (c .before .before .before .before .before .before .before .before .before .before .before .before .before .before .before .before .before .before .before .before .before .args .kc) (c .before .before .before .before .before .before .before .before .before .before .before .before .before .before .before .before .before .before .before .before .before .args .c + c .before .before .before .before .before .before .before .before .before .before .before .before .before .before .before .before .before .before .before .before .before .args .kc + 1) (width-pos (c .before .before .before .before .before .before .before .before .before .before .before .before .before .before .before .before .before .before .before .before .before .args .c) (c .before .before .before .before .before .before .before .before .before .before .before .before .before .before .before .before .before .before .before .before .before .pre .1 .width)) (width-le (c .before .before .before .before .before .before .before .before .before .before .before .before .before .before .before .before .before .before .before .before .before .args .c) (c .before .before .before .before .before .before .before .before .before .before .before .before .before .before .before .before .before .before .before .before .before .pre .1 .width)) (c .before .before .before .before .before .before .before .before .before .before .before .before .before .before .before .before .before .before .before .before .before .pre .1 .most) refl) (c .before .before .before .before .before .before .before .before .before .before .before .before .before .before .before .add-keys .ensures) (c .before .before .before .before .before .before .before .before .before .before .before .before .round .ensures) (c .before .before .before .before .before .before .before .before .round2 .ensures) (c .before .before .before .before .before .add-keys2 .ensures) (c .before .round3 .ensures)
 
 pub helper-key-spec : {M : Type 1} → statement M
 helper-key-spec =
