@@ -3,10 +3,12 @@ use mathlib.Core.Path.{_≡_, refl, sym, ap, ap₂, _∙_, subst}
 use mathlib.Core.Logic.{_⊎_, ⊎-elim}
 use mathlib.Core.List.{List}
 use Prim.Native.Nat.{ℕ, zero, suc, _+_, _-_, _*_, _/_, _%_, _^_, _<_, _≤_}
-use native.Mathlib.Nat.{mul-le-mul-left, mul-suc, mul-zero, zero-add, mod-lt, add-zero}
+use native.Mathlib.Nat.{mul-le-mul, mul-le-mul-left, mul-suc, mul-zero, zero-add, mod-lt, add-zero}
 use native.Mathlib.Numerals.{add-one}
 use native.Mathlib.Omega.{arith}
 use lib.ListN.{getD, length, set}
+use Rattle.common.proofs.Places.{length-tab}
+use Rattle.kalyna.specs.State.{columnsOf}
 use Rattle.field.specs.Xor.{xor}
 use Rattle.words.specs.Words.{wordAt, putWord, putWords}
 use Rattle.words.proofs.Walks.{length-puts}
@@ -76,3 +78,18 @@ pair-room c i n at l e h r = omega (arith, mul-le-mul-left c inside, mul-suc c (
 -- lane i of n
 pub lane-room : (c i n w l : ℕ) → w ≡ c * i → i < n → c * n ≤ l → w + c ≤ l
 lane-room c i n w l e h r = omega (arith, mul-le-mul-left c h, mul-suc c i)
+
+-- ---- the arrays' lengths
+
+pub lanes-fit : (c n : ℕ) → c ≤ 8 → n ≤ 10 → c * n ≤ 80
+lanes-fit c n h l = mul-le-mul h l
+
+pub keys-fit : (c r : ℕ) → c ≤ 8 → r ≤ 18 → c * (2 * (r / 2 + 1)) ≤ 160
+keys-fit c r h l = mul-le-mul {n₁ = c} {m₁ = 2 * (r / 2 + 1)} {n₂ = 8} {m₂ = 20} h (omega arith)
+
+pub odd-fit : (c r l : ℕ) → c ≤ 8 → r ≤ 18 → l ≡ 160 → c * (2 * (r / 2)) ≤ l
+odd-fit c r l h m e = subst (λ l. c * (2 * (r / 2)) ≤ l) (sym e) (mul-le-mul {n₁ = c} {m₁ = 2 * (r / 2)} {n₂ = 8} {m₂ = 20} h (omega arith))
+
+pub columns-long : (n : ℕ) (b : List ℕ) → length (columnsOf n b) ≡ n
+unfolding columnsOf
+columns-long n b = length-tab n _

@@ -15,7 +15,7 @@ ghost use Rattle.key_laws.specs.Schedule.{scheduleOf};
 // 6.5.1: the helper key, as a block. The second half of the key stands kc - c columns on.
 fn helper_key(t: &[u8; 8192], k: &[u64], c: usize, kc: usize) -> [u16; 32]
     requires { ⌜ (now t ≡ sealTable) × Sized c kc × (length (now k) ≡ kc) ⌝ }
-    ensures { λ r. ⌜ blockAt c r 0 ≡ helper c kc (now (k .entry)) ⌝ }
+    ensures { λ r. ⌜ (length r ≡ 32) × (blockAt c r 0 ≡ helper c kc (now (k .entry))) ⌝ }
 {
     let none = [0u64; 8];
     let mut s = [0u16; 32];

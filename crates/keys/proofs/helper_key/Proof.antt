@@ -86,7 +86,7 @@ round-requires-3 c κs = (c .before .before .before .before .before .before .bef
 
 -- src/lib.rt:16:1
 returns : tie.Need-returns
-returns c = helper-is (c .before .before .before .before .before .before .before .before .before .before .before .before .before .before .before .before .before .before .before .before .before .args .c) (c .before .before .before .before .before .before .before .before .before .before .before .before .before .before .before .before .before .before .before .before .before .args .kc) (now (c .before .before .before .before .before .before .before .before .before .before .before .before .before .before .before .before .before .before .before .before .before .args .k)) (c .before .before .before .before .before .before .before .before .before .before .before .before .before .before .before .before .before .before .put-word .last .0) (c .before .before .before .before .before .before .before .before .before .before .before .before .before .before .before .add-keys .last .0) (c .before .before .before .before .before .before .before .before .before .before .before .before .round .last .1 .0) (c .before .before .before .before .before .before .before .before .round2 .last .1 .0) (c .before .before .before .before .before .add-keys2 .last .0) (c .before .round3 .last .1 .0) (width-le (c .before .before .before .before .before .before .before .before .before .before .before .before .before .before .before .before .before .before .before .before .before .args .c) (c .before .before .before .before .before .before .before .before .before .before .before .before .before .before .before .before .before .before .before .before .before .pre .1 .width)) (ap (λ x. blockAt (c .before .before .before .before .before .before .before .before .before .before .before .before .before .before .before .before .before .before .before .before .before .args .c) x 0) (c .before .before .before .before .before .before .before .before .before .before .before .before .before .before .before .before .before .before .put-word .ensures) ∙ start-is (c .before .before .before .before .before .before .before .before .before .before .before .before .before .before .before .before .before .before .before .before .before .args .c) (c .before .before .before .before .before .before .before .before .before .before .before .before .before .before .before .before .before .before .before .before .before .args .kc) (c .before .before .before .before .before .before .before .before .before .before .before .before .before .before .before .before .before .before .before .before .before .args .c + c .before .before .before .before .before .before .before .before .before .before .before .before .before .before .before .before .before .before .before .before .before .args .kc + 1) (width-pos (c .before .before .before .before .before .before .before .before .before .before .before .before .before .before .before .before .before .before .before .before .before .args .c) (c .before .before .before .before .before .before .before .before .before .before .before .before .before .before .before .before .before .before .before .before .before .pre .1 .width)) (width-le (c .before .before .before .before .before .before .before .before .before .before .before .before .before .before .before .before .before .before .before .before .before .args .c) (c .before .before .before .before .before .before .before .before .before .before .before .before .before .before .before .before .before .before .before .before .before .pre .1 .width)) (c .before .before .before .before .before .before .before .before .before .before .before .before .before .before .before .before .before .before .before .before .before .pre .1 .most) refl) (c .before .before .before .before .before .before .before .before .before .before .before .before .before .before .before .add-keys .ensures) (c .before .before .before .before .before .before .before .before .before .before .before .before .round .ensures) (c .before .before .before .before .before .before .before .before .round2 .ensures) (c .before .before .before .before .before .add-keys2 .ensures) (c .before .round3 .ensures)
+returns c = (c .before .round3 .ensures .long ∙ c .before .before .before .before .before .add-keys2 .ensures .long ∙ c .before .before .before .before .before .before .before .before .round2 .ensures .long ∙ c .before .before .before .before .before .before .before .before .before .before .before .before .round .ensures .long ∙ c .before .before .before .before .before .before .before .before .before .before .before .before .before .before .before .add-keys .ensures .long ∙ ap length (c .before .before .before .before .before .before .before .before .before .before .before .before .before .before .before .before .before .before .put-word .ensures) ∙ length-put (noughts 32) 0 (c .before .before .before .before .before .before .before .before .before .before .before .before .before .before .before .before .before .before .before .before .before .args .c + c .before .before .before .before .before .before .before .before .before .before .before .before .before .before .before .before .before .before .before .before .before .args .kc + 1), helper-is (c .before .before .before .before .before .before .before .before .before .before .before .before .before .before .before .before .before .before .before .before .before .args .c) (c .before .before .before .before .before .before .before .before .before .before .before .before .before .before .before .before .before .before .before .before .before .args .kc) (now (c .before .before .before .before .before .before .before .before .before .before .before .before .before .before .before .before .before .before .before .before .before .args .k)) (c .before .before .before .before .before .before .before .before .before .before .before .before .before .before .before .before .before .before .put-word .last .0) (c .before .before .before .before .before .before .before .before .before .before .before .before .before .before .before .add-keys .last .0) (c .before .before .before .before .before .before .before .before .before .before .before .before .round .last .1 .0) (c .before .before .before .before .before .before .before .before .round2 .last .1 .0) (c .before .before .before .before .before .add-keys2 .last .0) (c .before .round3 .last .1 .0) (width-le (c .before .before .before .before .before .before .before .before .before .before .before .before .before .before .before .before .before .before .before .before .before .args .c) (c .before .before .before .before .before .before .before .before .before .before .before .before .before .before .before .before .before .before .before .before .before .pre .1 .width)) (ap (λ x. blockAt (c .before .before .before .before .before .before .before .before .before .before .before .before .before .before .before .before .before .before .before .before .before .args .c) x 0) (c .before .before .before .before .before .before .before .before .before .before .before .before .before .before .before .before .before .before .put-word .ensures) ∙ start-is (c .before .before .before .before .before .before .before .before .before .before .before .before .before .before .before .before .before .before .before .before .before .args .c) (c .before .before .before .before .before .before .before .before .before .before .before .before .before .before .before .before .before .before .before .before .before .args .kc) (c .before .before .before .before .before .before .before .before .before .before .before .before .before .before .before .before .before .before .before .before .before .args .c + c .before .before .before .before .before .before .before .before .before .before .before .before .before .before .before .before .before .before .before .before .before .args .kc + 1) (width-pos (c .before .before .before .before .before .before .before .before .before .before .before .before .before .before .before .before .before .before .before .before .before .args .c) (c .before .before .before .before .before .before .before .before .before .before .before .before .before .before .before .before .before .before .before .before .before .pre .1 .width)) (width-le (c .before .before .before .before .before .before .before .before .before .before .before .before .before .before .before .before .before .before .before .before .before .args .c) (c .before .before .before .before .before .before .before .before .before .before .before .before .before .before .before .before .before .before .before .before .before .pre .1 .width)) (c .before .before .before .before .before .before .before .before .before .before .before .before .before .before .before .before .before .before .before .before .before .pre .1 .most) refl) (c .before .before .before .before .before .before .before .before .before .before .before .before .before .before .before .add-keys .ensures) (c .before .before .before .before .before .before .before .before .before .before .before .before .round .ensures) (c .before .before .before .before .before .before .before .before .round2 .ensures) (c .before .before .before .before .before .add-keys2 .ensures) (c .before .round3 .ensures))
 
 pub helper-key-spec : {M : Type 1} → statement M
 helper-key-spec =
