@@ -1,0 +1,2 @@
+-- The table's rows.
+pub mod Rows

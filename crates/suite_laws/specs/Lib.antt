@@ -1,0 +1,2 @@
+-- The rows of the suite table.
+pub mod Row

@@ -1,0 +1,1 @@
+// What every row of the suite table has in common. No code.
