@@ -22,6 +22,7 @@ row-1 =
       some = omega arith;
       even = refl;
       most = omega arith;
+      room = omega arith;
     }
 
 row-2 : Row (suite 128 256 14 2)
@@ -34,6 +35,7 @@ row-2 =
       some = omega arith;
       even = refl;
       most = omega arith;
+      room = omega arith;
     }
 
 row-3 : Row (suite 256 256 14 4)
@@ -46,6 +48,7 @@ row-3 =
       some = omega arith;
       even = refl;
       most = omega arith;
+      room = omega arith;
     }
 
 row-4 : Row (suite 256 512 18 4)
@@ -58,6 +61,7 @@ row-4 =
       some = omega arith;
       even = refl;
       most = omega arith;
+      room = omega arith;
     }
 
 row-5 : Row (suite 512 512 18 8)
@@ -70,6 +74,7 @@ row-5 =
       some = omega arith;
       even = refl;
       most = omega arith;
+      room = omega arith;
     }
 
 -- the first of two where the test holds, else the second

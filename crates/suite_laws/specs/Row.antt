@@ -1,6 +1,6 @@
 -- What every suite of the table has (document 01, section 2).
 use mathlib.Core.Path.{_≡_}
-use Prim.Native.Nat.{ℕ, _*_, _%_, _≤_, _<_}
+use Prim.Native.Nat.{ℕ, _+_, _*_, _%_, _≤_, _<_}
 use Rattle.suites.specs.Suites.{blockBytes, keyBytes, keyColumns}
 use Rattle.suites.specs.declared.Suite.{Suite}
 use Rattle.blocks.specs.Blocks.{Width}
@@ -14,3 +14,4 @@ pub record Row (s : Suite) : Type 0 where
   pub some : 0 < s .rounds
   pub even : s .rounds % 2 ≡ 0
   pub most : s .rounds ≤ 18
+  pub room : s .columns * (s .rounds + 1) ≤ 160
