@@ -28,7 +28,7 @@ use Rattle.rounds.specs.Rounds.{looked, sealPlaces, openPlaces, keyAt, roundOf}
 use Rattle.rounds.proofs.Laws.{looked-open, places-two}
 use Rattle.blocks.specs.Blocks.{Width, keysOf}
 use Rattle.blocks.proofs.Laws.{block-column, puts-more, puts-next}
-use Rattle.open_laws.specs.Opening.{openRound, openRounds, openWith, unmixed, swapped, Unmixed}
+use Rattle.open_laws.specs.Opening.{firstRound, openRound, openRounds, lastRound, openWith, unmixed, swapped, Unmixed}
 use Rattle.open_laws.proofs.Swaps.{swapped-is}
 
 -- ---- a round
@@ -75,8 +75,8 @@ first-key c r h = omega (arith, mul-le-mul-left c h, mul-suc c 0)
 
 -- the key subtracted from each column, which is then swapped by the table of opening
 pub started : (c : ℕ) (t p ks : List ℕ) (at : ℕ) (b : List ℕ) → t ≡ openTable → p ≡ substitutions
-    → tab c (λ j. swapped t p ((getD b j 0 + 2 ^ 64 - getD ks (at + j) 0 % 2 ^ 64) % 2 ^ 64)) ≡ unmix c (subKey c (keyAt c ks at) b)
-unfolding unmix subKey keyAt unmixed
+    → tab c (λ j. swapped t p ((getD b j 0 + 2 ^ 64 - getD ks (at + j) 0 % 2 ^ 64) % 2 ^ 64)) ≡ firstRound c (keyAt c ks at) b
+unfolding firstRound unmix subKey keyAt unmixed
 started c t p ks at b et ep =
     tab-ext c _ _ (λ j l.
     swapped-is t p _ et ep
@@ -158,11 +158,11 @@ nears-none c n K v H s₀ s e a =
 
 -- ---- the whole
 
-pub walk-whole : (c n t : ℕ) (ks s s₁ s₂ s₃ : List ℕ) → Walked c n (λ y. unmix c (subKey c (keyAt c ks (c * t)) y)) s s₁ → Walked c n (openRounds c (keysOf c ks) (t - 1)) s₁ s₂
-    → Walked c n (λ y. subKey c (keyAt c ks 0) (back (moves c) c y)) s₂ s₃ → Walked c n (openWith c t (keysOf c ks)) s s₃
+pub walk-whole : (c n t : ℕ) (ks s s₁ s₂ s₃ : List ℕ) → Walked c n (firstRound c (keyAt c ks (c * t))) s s₁ → Walked c n (openRounds c (keysOf c ks) (t - 1)) s₁ s₂
+    → Walked c n (lastRound c (keyAt c ks 0)) s₂ s₃ → Walked c n (openWith c t (keysOf c ks)) s s₃
 unfolding openWith keysOf
 walk-whole c n t ks s s₁ s₂ s₃ a b d =
-    walk-as c n _ _ s s₃ (λ i l. ap (λ m. subKey c (keyAt c ks m) (back (moves c) c (openRounds c (keysOf c ks) (t - 1) (unmix c (subKey c (keyAt c ks (c * t)) (blockAt c s i)))))) zero-place)
+    walk-as c n _ _ s s₃ (λ i l. ap (λ m. lastRound c (keyAt c ks m) (openRounds c (keysOf c ks) (t - 1) (firstRound c (keyAt c ks (c * t)) (blockAt c s i)))) zero-place)
     (walk-then c n _ _ s s₂ s₃ (walk-then c n _ _ s s₁ s₂ a b) d)
   where
     zero-place : 0 ≡ c * 0
