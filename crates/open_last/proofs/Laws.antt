@@ -1,18 +1,17 @@
 -- The last step: rows that are looked up are the rows that the standard names, and blocks are stored less their key.
-use mathlib.Core.Path.{_≡_, refl, sym, ap, ap₂, _∙_, subst}
+use mathlib.Core.Path.{_≡_, sym, ap, ap₂, _∙_}
 use mathlib.Core.List.{List, [], _∷_}
 use Prim.Native.Nat.{ℕ, _+_, _-_, _*_, _/_, _%_, _^_, _<_, _≤_}
 use native.Mathlib.Nat.{mod-lt, div-one}
 use native.Mathlib.Omega.{arith}
 use lib.ListN.{getD, length}
-use Rattle.common.specs.Places.{tab}
 use Rattle.common.proofs.Places.{getD-tab, tab-ext}
-use Rattle.field.specs.Column.{byteOf, pack}
+use Rattle.field.specs.Column.{byteOf}
 use Rattle.field.proofs.XorLaws.{lt-two}
 use Rattle.field.proofs.PackLaws.{byteOf-lt, pack-ext}
 use Rattle.substitutions.specs.Tables.{unsub, unsubstitutions}
 use Rattle.columns.proofs.Lookup.{eight-bytes, four, eight}
-use Rattle.words.specs.Words.{wordAt, putWord, putWords, blockAt, Walked}
+use Rattle.words.specs.Words.{wordAt, putWords, blockAt, Walked}
 use Rattle.words.proofs.Walks.{walk-more}
 use Rattle.kalyna.specs.Round.{subKey, to}
 use Rattle.kalyna.specs.Block.{moves}

@@ -1,33 +1,27 @@
 -- Opening all blocks of a cell, walk by walk.
-use mathlib.Core.Path.{_≡_, refl, sym, ap, ap₂, _∙_, subst}
+use mathlib.Core.Path.{_≡_, refl, sym, ap, _∙_, subst}
 use mathlib.Core.Logic.{_⊎_, ⊎-elim}
 use mathlib.Core.List.{List, [], _∷_}
 use Prim.Native.Nat.{ℕ, zero, suc, _+_, _-_, _*_, _/_, _%_, _^_, _<_, _≤_}
-use native.Mathlib.Nat.{mul-le-mul-left, mul-suc, not-suc-le-zero, zero-add, div-one}
+use native.Mathlib.Nat.{mul-le-mul-left, mul-suc, not-suc-le-zero, div-one}
 use native.Mathlib.Omega.{arith}
 use native.Mathlib.Decide.{decLt}
 use lib.ListN.{getD, length, set, length-set}
 use lib.Seq.{getD-set-same, getD-set-other}
 use Rattle.common.specs.Places.{tab}
 use Rattle.common.proofs.Places.{getD-tab, tab-ext}
-use Rattle.field.specs.Column.{byteOf, pack}
-use Rattle.field.specs.Mixing.{product, forward}
-use Rattle.field.proofs.XorLaws as X
-use Rattle.field.proofs.PackLaws.{byteOf-lt, pack-lt, product-lt}
-use Rattle.substitutions.specs.Tables.{substitutions, unsubstitutions}
-use Rattle.lookup.specs.Table.{gather, sealTable, openTable}
+use Rattle.field.specs.Column.{byteOf}
+use Rattle.substitutions.specs.Tables.{substitutions}
+use Rattle.lookup.specs.Table.{gather, openTable}
 use Rattle.lookup.proofs.Laws.{gather-ext}
 use Rattle.columns.proofs.Lookup.{eight}
-use Rattle.words.specs.Words.{wordAt, putWord, putWords, blockAt, Walked}
-use Rattle.words.proofs.Walks.{length-puts, puts-other, puts-at, walk-as, walk-then}
-use Rattle.kalyna.specs.Round.{subKey, xorKey, unmix, mix}
-use Rattle.kalyna.specs.Block.{moves}
+use Rattle.words.specs.Words.{wordAt, blockAt, Walked}
+use Rattle.words.proofs.Walks.{walk-as, walk-then}
+use Rattle.kalyna.specs.Round.{subKey, xorKey, unmix}
 use Rattle.kalyna.proofs.Rows.{back}
-use Rattle.kalyna.proofs.Undo.{mix-unmixed, unmix-state, unsubstitute-state}
 use Rattle.rounds.specs.Rounds.{looked, sealPlaces, openPlaces, keyAt, roundOf}
 use Rattle.rounds.proofs.Laws.{looked-open, places-two}
 use Rattle.blocks.specs.Blocks.{Width, keysOf}
-use Rattle.blocks.proofs.Laws.{block-column, puts-more, puts-next}
 use Rattle.open_laws.specs.Opening.{firstRound, openRound, openRounds, lastRound, openWith, unmixed, swapped, Unmixed}
 use Rattle.open_laws.proofs.Swaps.{swapped-is}
 

@@ -5,12 +5,11 @@ use mathlib.Core.List.{List}
 use Prim.Native.Nat.{ℕ, zero, suc, _+_, _-_, _*_, _<_, _≤_}
 use native.Mathlib.Nat.{mul-le-mul-left, mul-suc}
 use native.Mathlib.Omega.{arith}
-use lib.ListN.{getD, length}
-use Rattle.common.specs.Places.{tab}
+use lib.ListN.{getD}
 use Rattle.common.proofs.Places.{getD-tab, tab-ext}
 use Rattle.field.specs.Column.{byteOf, pack}
 use Rattle.field.specs.Mixing.{product, backward}
-use Rattle.kalyna.specs.Round.{subKey, xorKey, unmix, unsubstitute, unshift, unssm}
+use Rattle.kalyna.specs.Round.{subKey, xorKey, unmix, unssm}
 use Rattle.kalyna.specs.Block.{moves, unrounds, unseal}
 use Rattle.kalyna.proofs.Rows.{back, unmix-xor}
 use Rattle.rounds.specs.Rounds.{keyAt}

@@ -1,6 +1,6 @@
 use borrow.Author.Needs.{needs}
-use mathlib.Core.Path.{_≡_, refl, sym, ap, ap₂, subst, _∙_}
-use Prim.Native.Nat.{ℕ, _+_, _-_, _*_, _/_, _%_, _^_, _≤_, _<_}
+use mathlib.Core.Path.{_≡_, sym, subst}
+use Prim.Native.Nat.{_+_, _-_, _*_, _%_, _^_, _≤_}
 use native.Mathlib.Nat.{mul-zero}
 use native.Mathlib.Omega.{arith}
 use lib.ListN.{getD, length}
@@ -14,9 +14,6 @@ use Rattle.open_laws.proofs.Swaps.{swapped-lt}
 use Rattle.open_laws.proofs.Cells.{started}
 use Rattle.open_block.proofs.start_blocks.Statement.{statement}
 use Rattle.open_block.proofs.start_blocks.Tie as tie
-use Rattle.open_block.proofs.start_blocks.Reads as reads
-use Rattle.open_block.proofs.start_blocks.Lts as lts
-use Rattle.open_block.proofs.start_block.Reads as start-block-reads
 
 abbrev Inv-loop : tie.InvT-loop
 Inv-loop t p s₀ n c ks at i₀ w₀ s i w = (i ≤ n) × (w ≡ c * i) × Walked c i (firstRound c (keyAt c ks at)) s₀ s

@@ -1,8 +1,5 @@
-use mathlib.Core.Path.{_≡_, refl, sym, ap, ap₂, subst, _∙_}
-use Prim.Native.Nat.{ℕ, _+_, _-_, _*_, _/_, _%_, _^_, _≤_, _<_}
-use native.Mathlib.Nat.{add-zero, mul-zero}
-use native.Mathlib.Omega.{arith}
-use lib.ListN.{getD, length}
+use mathlib.Core.Path.{sym, subst}
+use lib.ListN.{length}
 use denote.Ref.{now}
 use Rattle.words.specs.Words.{Walked}
 use Rattle.rounds.specs.Rounds.{keyAt}
@@ -11,11 +8,6 @@ use Rattle.open_laws.proofs.Cells.{room-at, width-8}
 use borrow.Author.Needs.{needs}
 use Rattle.open_last.proofs.last_blocks.Statement.{statement}
 use Rattle.open_last.proofs.last_blocks.Tie as tie
-use Rattle.open_last.proofs.last_blocks.Reads as reads
-use Rattle.open_last.proofs.last_blocks.Lts as lts
-use Rattle.open_last.proofs.lasts2.Reads as lasts2-reads
-use Rattle.open_last.proofs.lasts4.Reads as lasts4-reads
-use Rattle.open_last.proofs.lasts8.Reads as lasts8-reads
 
 -- src/lib.rt:163:9
 lasts2-requires : tie.Need-lasts2-requires

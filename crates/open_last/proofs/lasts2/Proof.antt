@@ -1,9 +1,7 @@
 use borrow.Author.Needs.{needs}
-use mathlib.Core.Path.{_≡_, refl, sym, ap, ap₂, subst, _∙_}
-use Prim.Native.Nat.{ℕ, _+_, _-_, _*_, _/_, _%_, _^_, _≤_, _<_}
-use native.Mathlib.Nat.{add-zero, mul-zero}
+use mathlib.Core.Path.{refl, subst}
+use Prim.Native.Nat.{_-_, _*_, _≤_}
 use native.Mathlib.Omega.{arith}
-use lib.ListN.{getD, length}
 use denote.Ref.{now}
 use Rattle.words.specs.Words.{Walked}
 use Rattle.words.proofs.Walks.{walk-none}
@@ -12,10 +10,6 @@ use Rattle.open_laws.specs.Opening.{lastRound}
 use Rattle.open_last.proofs.Laws.{last-more}
 use Rattle.open_last.proofs.lasts2.Statement.{statement}
 use Rattle.open_last.proofs.lasts2.Tie as tie
-use Rattle.open_last.proofs.lasts2.Reads as reads
-use Rattle.open_last.proofs.lasts2.Lts as lts
-use Rattle.open_last.proofs.last2.Reads as last2-reads
-use Rattle.open_last.proofs.less_block.Reads as less-block-reads
 
 abbrev Inv-loop : tie.InvT-loop
 Inv-loop u s₀ n ks at i₀ s i = (i ≤ n) × Walked 2 i (lastRound 2 (keyAt 2 ks at)) s₀ s
