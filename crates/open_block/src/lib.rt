@@ -5,10 +5,9 @@ ghost use lib.ListN.{getD, length};
 ghost use Rattle.substitutions.specs.Tables.{substitutions, unsubstitutions};
 ghost use Rattle.lookup.specs.Table.{openTable};
 ghost use Rattle.words.specs.Words.{wordAt, putWords, Walked};
-ghost use Rattle.kalyna.specs.Round.{subKey, unmix};
 ghost use Rattle.rounds.specs.Rounds.{keyAt};
 ghost use Rattle.blocks.specs.Blocks.{Width, keysOf};
-ghost use Rattle.open_laws.specs.Opening.{openRound, openRounds, openWith, swapped, Unmixed};
+ghost use Rattle.open_laws.specs.Opening.{firstRound, openRound, openRounds, openWith, swapped, Unmixed};
 
 fn wide(x: u8) -> u16
     ensures { λ r. ⌜ (r ≡ x) × (r < 256) ⌝ }
@@ -130,7 +129,7 @@ fn start_blocks(
     at: usize,
 )
     requires { ⌜ (now t ≡ openTable) × (now p ≡ substitutions) × (4 * (c * n) ≤ length (now s)) × (at + c ≤ length (now ks)) ⌝ }
-    ensures { λ o. ⌜ Walked c n (λ y. unmix c (subKey c (keyAt c (now (ks .entry)) at) y)) (now (s .entry)) (now (s .exit)) ⌝ }
+    ensures { λ o. ⌜ Walked c n (firstRound c (keyAt c (now (ks .entry)) at)) (now (s .entry)) (now (s .exit)) ⌝ }
 {
     let mut i: usize = 0;
     let mut w: usize = 0;

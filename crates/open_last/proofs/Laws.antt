@@ -1,26 +1,24 @@
 -- The last step: rows that are looked up are the rows that the standard names, and blocks are stored less their key.
-use mathlib.Core.Path.{_≡_, refl, sym, ap, ap₂, _∙_, subst}
-use mathlib.Core.Logic.{⊎-elim}
+use mathlib.Core.Path.{_≡_, sym, ap, ap₂, _∙_}
 use mathlib.Core.List.{List, [], _∷_}
 use Prim.Native.Nat.{ℕ, _+_, _-_, _*_, _/_, _%_, _^_, _<_, _≤_}
 use native.Mathlib.Nat.{mod-lt, div-one}
 use native.Mathlib.Omega.{arith}
 use lib.ListN.{getD, length}
-use Rattle.common.specs.Places.{tab}
 use Rattle.common.proofs.Places.{getD-tab, tab-ext}
-use Rattle.field.specs.Column.{byteOf, pack}
+use Rattle.field.specs.Column.{byteOf}
 use Rattle.field.proofs.XorLaws.{lt-two}
 use Rattle.field.proofs.PackLaws.{byteOf-lt, pack-ext, eight-bytes}
 use Rattle.substitutions.specs.Tables.{unsub, unsubstitutions}
 use Rattle.columns.proofs.Lookup.{four, eight}
-use Rattle.words.specs.Words.{wordAt, putWord, putWords, blockAt, Walked}
+use Rattle.words.specs.Words.{wordAt, putWords, blockAt, Walked}
 use Rattle.words.proofs.Walks.{walk-more}
 use Rattle.kalyna.specs.Round.{subKey, to}
 use Rattle.kalyna.specs.Block.{moves}
 use Rattle.kalyna.proofs.Rows.{back, back-at, to-lt}
 use Rattle.rounds.specs.Rounds.{openPlaces, keyAt}
-use Rattle.blocks.specs.Blocks.{Width}
 use Rattle.blocks.proofs.Laws.{block-column}
+use Rattle.open_laws.specs.Opening.{lastRound}
 use Rattle.open_laws.proofs.Swaps.{unsub-place}
 use Rattle.open_last.specs.Last.{replaced, Replaced}
 
@@ -102,9 +100,6 @@ module _ (u s : List ℕ) (w : ℕ) where
 
 -- ---- all blocks
 
-pub width-fits : (c : ℕ) → Width c → c ≤ 8
-width-fits c w = ⊎-elim (λ e. omega arith) (λ w. ⊎-elim (λ e. omega arith) (λ e. omega arith) w) w
-
 -- what is looked up is shifted and substituted back
 back-column : (c i : ℕ) (u s : List ℕ) (w : ℕ) (x : List ℕ) → u ≡ unsubstitutions → w ≡ c * i → Replaced u c s w x → (j : ℕ) → j < c → getD x j 0 ≡ getD (back (moves c) c (blockAt c s i)) j 0
 unfolding replaced openPlaces
@@ -118,11 +113,11 @@ back-column c i u s w x eu ew r j l =
 
 -- one more block
 pub last-more : (c i : ℕ) (u ks : List ℕ) (at : ℕ) (s₀ s s′ : List ℕ) (w : ℕ) (x : List ℕ) → u ≡ unsubstitutions → w ≡ c * i → Replaced u c s w x
-    → Walked c i (λ y. subKey c (keyAt c ks at) (back (moves c) c y)) s₀ s → 4 * (c * i + c) ≤ length s₀
-    → s′ ≡ putWords s w c (λ j. (getD x j 0 + 2 ^ 64 - getD ks (at + j) 0 % 2 ^ 64) % 2 ^ 64) → Walked c (i + 1) (λ y. subKey c (keyAt c ks at) (back (moves c) c y)) s₀ s′
-unfolding subKey keyAt
+    → Walked c i (lastRound c (keyAt c ks at)) s₀ s → 4 * (c * i + c) ≤ length s₀
+    → s′ ≡ putWords s w c (λ j. (getD x j 0 + 2 ^ 64 - getD ks (at + j) 0 % 2 ^ 64) % 2 ^ 64) → Walked c (i + 1) (lastRound c (keyAt c ks at)) s₀ s′
+unfolding lastRound subKey keyAt
 last-more c i u ks at s₀ s s′ w x eu ew r a h e =
-    walk-more c i (λ y. subKey c (keyAt c ks at) (back (moves c) c y)) s₀ s s′ (λ j. (getD x j 0 + 2 ^ 64 - getD ks (at + j) 0 % 2 ^ 64) % 2 ^ 64) a h
+    walk-more c i (lastRound c (keyAt c ks at)) s₀ s s′ (λ j. (getD x j 0 + 2 ^ 64 - getD ks (at + j) 0 % 2 ^ 64) % 2 ^ 64) a h
     (e ∙ ap (λ n. putWords s n c (λ j. (getD x j 0 + 2 ^ 64 - getD ks (at + j) 0 % 2 ^ 64) % 2 ^ 64)) ew)
     (λ k l. mod-lt _ (omega arith))
     (tab-ext c _ _ (λ j l.

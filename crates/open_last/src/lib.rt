@@ -6,12 +6,10 @@ ghost use lib.ListN.{getD, length};
 ghost use Rattle.field.specs.Column.{byteOf};
 ghost use Rattle.substitutions.specs.Tables.{unsubstitutions};
 ghost use Rattle.words.specs.Words.{putWords, Walked};
-ghost use Rattle.kalyna.specs.Round.{subKey};
-ghost use Rattle.kalyna.specs.Block.{moves};
-ghost use Rattle.kalyna.proofs.Rows.{back};
 ghost use Rattle.rounds.specs.Rounds.{keyAt};
 ghost use Rattle.blocks.specs.Blocks.{Width};
 ghost use Rattle.open_last.specs.Last.{replaced, Replaced};
+ghost use Rattle.open_laws.specs.Opening.{lastRound};
 
 fn wide(x: u8) -> u64
     ensures { λ r. ⌜ (r ≡ x) × (r < 256) ⌝ }
@@ -103,20 +101,6 @@ fn last8(u: &[u8; 1024], s: &[u16], w: usize) -> [u64; 8]
     o
 }
 
-// A block of c columns, which starts at column w.
-fn last(u: &[u8; 1024], s: &[u16], w: usize, c: usize) -> [u64; 8]
-    requires { ⌜ Width c × (4 * (w + c) ≤ length (now s)) ⌝ }
-    ensures { λ r. ⌜ Replaced (now (u .entry)) c (now (s .entry)) w r ⌝ }
-{
-    if c == 2 {
-        last2(u, s, w)
-    } else if c == 4 {
-        last4(u, s, w)
-    } else {
-        last8(u, s, w)
-    }
-}
-
 // The block that starts at column w replaced by x, less the key at a place of ks.
 fn less_block(s: &mut [u16], w: usize, c: usize, ks: &[u64], at: usize, x: [u64; 8])
     requires { ⌜ (c ≤ 8) × (4 * (w + c) ≤ length (now s)) × (at + c ≤ length (now ks)) ⌝ }
@@ -129,17 +113,58 @@ fn less_block(s: &mut [u16], w: usize, c: usize, ks: &[u64], at: usize, x: [u64;
     }
 }
 
+// All n blocks of 2 columns shifted and substituted back, less the key at a place of ks.
+fn lasts2(u: &[u8; 1024], s: &mut [u16], n: usize, ks: &[u64], at: usize)
+    requires { ⌜ (now u ≡ unsubstitutions) × (4 * (2 * n) ≤ length (now s)) × (at + 2 ≤ length (now ks)) ⌝ }
+    ensures { λ r. ⌜ Walked 2 n (lastRound 2 (keyAt 2 (now (ks .entry)) at)) (now (s .entry)) (now (s .exit)) ⌝ }
+{
+    let mut i: usize = 0;
+    while i < n {
+        let w = 2 * i;
+        let x = last2(u, s, w);
+        less_block(s, w, 2, ks, at, x);
+        i += 1;
+    }
+}
+
+// All n blocks of 4 columns shifted and substituted back, less the key at a place of ks.
+fn lasts4(u: &[u8; 1024], s: &mut [u16], n: usize, ks: &[u64], at: usize)
+    requires { ⌜ (now u ≡ unsubstitutions) × (4 * (4 * n) ≤ length (now s)) × (at + 4 ≤ length (now ks)) ⌝ }
+    ensures { λ r. ⌜ Walked 4 n (lastRound 4 (keyAt 4 (now (ks .entry)) at)) (now (s .entry)) (now (s .exit)) ⌝ }
+{
+    let mut i: usize = 0;
+    while i < n {
+        let w = 4 * i;
+        let x = last4(u, s, w);
+        less_block(s, w, 4, ks, at, x);
+        i += 1;
+    }
+}
+
+// All n blocks of 8 columns shifted and substituted back, less the key at a place of ks.
+fn lasts8(u: &[u8; 1024], s: &mut [u16], n: usize, ks: &[u64], at: usize)
+    requires { ⌜ (now u ≡ unsubstitutions) × (4 * (8 * n) ≤ length (now s)) × (at + 8 ≤ length (now ks)) ⌝ }
+    ensures { λ r. ⌜ Walked 8 n (lastRound 8 (keyAt 8 (now (ks .entry)) at)) (now (s .entry)) (now (s .exit)) ⌝ }
+{
+    let mut i: usize = 0;
+    while i < n {
+        let w = 8 * i;
+        let x = last8(u, s, w);
+        less_block(s, w, 8, ks, at, x);
+        i += 1;
+    }
+}
+
 // All n blocks of c columns shifted and substituted back, less the key at a place of ks.
 pub fn last_blocks(u: &[u8; 1024], s: &mut [u16], n: usize, c: usize, ks: &[u64], at: usize)
     requires { ⌜ (now u ≡ unsubstitutions) × Width c × (4 * (c * n) ≤ length (now s)) × (at + c ≤ length (now ks)) ⌝ }
-    ensures { λ r. ⌜ Walked c n (λ y. subKey c (keyAt c (now (ks .entry)) at) (back (moves c) c y)) (now (s .entry)) (now (s .exit)) ⌝ }
+    ensures { λ r. ⌜ Walked c n (lastRound c (keyAt c (now (ks .entry)) at)) (now (s .entry)) (now (s .exit)) ⌝ }
 {
-    let mut i: usize = 0;
-    let mut w: usize = 0;
-    while i < n {
-        let x = last(u, s, w, c);
-        less_block(s, w, c, ks, at, x);
-        w += c;
-        i += 1;
+    if c == 2 {
+        lasts2(u, s, n, ks, at);
+    } else if c == 4 {
+        lasts4(u, s, n, ks, at);
+    } else {
+        lasts8(u, s, n, ks, at);
     }
 }

@@ -1,34 +1,28 @@
 -- Opening all blocks of a cell, walk by walk.
-use mathlib.Core.Path.{_≡_, refl, sym, ap, ap₂, _∙_, subst}
+use mathlib.Core.Path.{_≡_, refl, sym, ap, _∙_, subst}
 use mathlib.Core.Logic.{_⊎_, ⊎-elim}
 use mathlib.Core.List.{List, [], _∷_}
 use Prim.Native.Nat.{ℕ, zero, suc, _+_, _-_, _*_, _/_, _%_, _^_, _<_, _≤_}
-use native.Mathlib.Nat.{mul-le-mul-left, mul-suc, not-suc-le-zero, zero-add, div-one}
+use native.Mathlib.Nat.{mul-le-mul-left, mul-suc, not-suc-le-zero, div-one}
 use native.Mathlib.Omega.{arith}
 use native.Mathlib.Decide.{decLt}
 use lib.ListN.{getD, length, set, length-set}
 use lib.Seq.{getD-set-same, getD-set-other}
 use Rattle.common.specs.Places.{tab}
 use Rattle.common.proofs.Places.{getD-tab, tab-ext}
-use Rattle.field.specs.Column.{byteOf, pack}
-use Rattle.field.specs.Mixing.{product, forward}
-use Rattle.field.proofs.XorLaws as X
-use Rattle.field.proofs.PackLaws.{byteOf-lt, pack-lt, product-lt}
-use Rattle.substitutions.specs.Tables.{substitutions, unsubstitutions}
-use Rattle.lookup.specs.Table.{gather, sealTable, openTable}
+use Rattle.field.specs.Column.{byteOf}
+use Rattle.substitutions.specs.Tables.{substitutions}
+use Rattle.lookup.specs.Table.{gather, openTable}
 use Rattle.lookup.proofs.Laws.{gather-ext}
 use Rattle.columns.proofs.Lookup.{eight}
-use Rattle.words.specs.Words.{wordAt, putWord, putWords, blockAt, Walked}
-use Rattle.words.proofs.Walks.{length-puts, puts-other, puts-at, walk-as, walk-then, puts-more, puts-next}
-use Rattle.kalyna.specs.Round.{subKey, xorKey, unmix, mix}
-use Rattle.kalyna.specs.Block.{moves}
+use Rattle.words.specs.Words.{wordAt, blockAt, Walked}
+use Rattle.words.proofs.Walks.{walk-as, walk-then}
+use Rattle.kalyna.specs.Round.{subKey, xorKey, unmix}
 use Rattle.kalyna.proofs.Rows.{back}
-use Rattle.kalyna.proofs.Undo.{mix-unmixed, unmix-state, unsubstitute-state}
 use Rattle.rounds.specs.Rounds.{looked, sealPlaces, openPlaces, keyAt, roundOf}
 use Rattle.rounds.proofs.Laws.{looked-open, places-two}
 use Rattle.blocks.specs.Blocks.{Width, keysOf}
-use Rattle.blocks.proofs.Laws.{block-column}
-use Rattle.open_laws.specs.Opening.{openRound, openRounds, openWith, unmixed, swapped, Unmixed}
+use Rattle.open_laws.specs.Opening.{firstRound, openRound, openRounds, lastRound, openWith, unmixed, swapped, Unmixed}
 use Rattle.open_laws.proofs.Swaps.{swapped-is}
 
 -- ---- a round
@@ -75,8 +69,8 @@ first-key c r h = omega (arith, mul-le-mul-left c h, mul-suc c 0)
 
 -- the key subtracted from each column, which is then swapped by the table of opening
 pub started : (c : ℕ) (t p ks : List ℕ) (at : ℕ) (b : List ℕ) → t ≡ openTable → p ≡ substitutions
-    → tab c (λ j. swapped t p ((getD b j 0 + 2 ^ 64 - getD ks (at + j) 0 % 2 ^ 64) % 2 ^ 64)) ≡ unmix c (subKey c (keyAt c ks at) b)
-unfolding unmix subKey keyAt unmixed
+    → tab c (λ j. swapped t p ((getD b j 0 + 2 ^ 64 - getD ks (at + j) 0 % 2 ^ 64) % 2 ^ 64)) ≡ firstRound c (keyAt c ks at) b
+unfolding firstRound unmix subKey keyAt unmixed
 started c t p ks at b et ep =
     tab-ext c _ _ (λ j l.
     swapped-is t p _ et ep
@@ -158,11 +152,11 @@ nears-none c n K v H s₀ s e a =
 
 -- ---- the whole
 
-pub walk-whole : (c n t : ℕ) (ks s s₁ s₂ s₃ : List ℕ) → Walked c n (λ y. unmix c (subKey c (keyAt c ks (c * t)) y)) s s₁ → Walked c n (openRounds c (keysOf c ks) (t - 1)) s₁ s₂
-    → Walked c n (λ y. subKey c (keyAt c ks 0) (back (moves c) c y)) s₂ s₃ → Walked c n (openWith c t (keysOf c ks)) s s₃
+pub walk-whole : (c n t : ℕ) (ks s s₁ s₂ s₃ : List ℕ) → Walked c n (firstRound c (keyAt c ks (c * t))) s s₁ → Walked c n (openRounds c (keysOf c ks) (t - 1)) s₁ s₂
+    → Walked c n (lastRound c (keyAt c ks 0)) s₂ s₃ → Walked c n (openWith c t (keysOf c ks)) s s₃
 unfolding openWith keysOf
 walk-whole c n t ks s s₁ s₂ s₃ a b d =
-    walk-as c n _ _ s s₃ (λ i l. ap (λ m. subKey c (keyAt c ks m) (back (moves c) c (openRounds c (keysOf c ks) (t - 1) (unmix c (subKey c (keyAt c ks (c * t)) (blockAt c s i)))))) zero-place)
+    walk-as c n _ _ s s₃ (λ i l. ap (λ m. lastRound c (keyAt c ks m) (openRounds c (keysOf c ks) (t - 1) (firstRound c (keyAt c ks (c * t)) (blockAt c s i)))) zero-place)
     (walk-then c n _ _ s s₂ s₃ (walk-then c n _ _ s s₁ s₂ a b) d)
   where
     zero-place : 0 ≡ c * 0

@@ -5,19 +5,18 @@ use mathlib.Core.List.{List}
 use Prim.Native.Nat.{ℕ, zero, suc, _+_, _-_, _*_, _<_, _≤_}
 use native.Mathlib.Nat.{mul-le-mul-left, mul-suc}
 use native.Mathlib.Omega.{arith}
-use lib.ListN.{getD, length}
-use Rattle.common.specs.Places.{tab}
+use lib.ListN.{getD}
 use Rattle.common.proofs.Places.{getD-tab, tab-ext}
 use Rattle.field.specs.Column.{byteOf, pack}
 use Rattle.field.specs.Mixing.{product, backward}
-use Rattle.kalyna.specs.Round.{subKey, xorKey, unmix, unsubstitute, unshift, unssm}
+use Rattle.kalyna.specs.Round.{subKey, xorKey, unmix, unssm}
 use Rattle.kalyna.specs.Block.{moves, unrounds, unseal}
 use Rattle.kalyna.proofs.Rows.{back, unmix-xor}
 use Rattle.rounds.specs.Rounds.{keyAt}
 use Rattle.blocks.specs.Blocks.{keysOf}
 use Rattle.words.specs.Words.{Walked}
 use Rattle.words.proofs.Walks.{walk-as}
-use Rattle.open_laws.specs.Opening.{openRound, openRounds, openWith, unmixed, Unmixed}
+use Rattle.open_laws.specs.Opening.{firstRound, openRound, openRounds, lastRound, openWith, unmixed, Unmixed}
 
 -- the standard's round, after a mixing back
 unssm-back : (c : ℕ) (s : List ℕ) → unssm (moves c) c s ≡ back (moves c) c (unmix c s)
@@ -41,7 +40,7 @@ rounds-back c (suc n) K L y h =
 
 -- keys mixed back open as the keys do
 pub open-unseal : (c t : ℕ) (K L : ℕ → List ℕ) (s : List ℕ) → L 0 ≡ K 0 → L t ≡ K t → Inner c (t - 1) K L → openWith c t L s ≡ unseal c t K s
-unfolding openWith unseal
+unfolding openWith firstRound lastRound unseal
 open-unseal c t K L s e₀ eₜ h =
     ap₂ (λ (k m : List ℕ). subKey c k (back (moves c) c (openRounds c L (t - 1) (unmix c (subKey c m s))))) e₀ eₜ
     ∙ ap (subKey c (K 0))

@@ -1,20 +1,19 @@
 -- What a swapped column is: the substitution inside the table undoes the one before it, so that only the mixing is left.
-use mathlib.Core.Path.{_≡_, refl, sym, ap, ap₂, _∙_, subst}
+use mathlib.Core.Path.{_≡_, sym, ap, ap₂, _∙_, subst}
 use mathlib.Core.List.{List, []}
-use Prim.Native.Nat.{ℕ, _+_, _*_, _/_, _%_, _^_, _<_, _≤_}
-use native.Mathlib.Nat.{mod-lt, mod-mod}
+use Prim.Native.Nat.{ℕ, _+_, _*_, _/_, _%_, _^_, _<_}
+use native.Mathlib.Nat.{mod-mod}
 use native.Mathlib.Omega.{arith}
-use lib.ListN.{getD, length}
-use Rattle.common.specs.Places.{tab}
+use lib.ListN.{getD}
 use Rattle.common.proofs.Places.{getD-tab}
-use Rattle.field.specs.Column.{byteOf, pack}
-use Rattle.field.specs.Mixing.{product, forward, backward}
+use Rattle.field.specs.Column.{byteOf}
+use Rattle.field.specs.Mixing.{backward}
 use Rattle.field.proofs.PackLaws.{byteOf-lt, pack-ext, pack-lt, product-lt}
 use Rattle.field.proofs.MixingLaws.{product-ext}
 use Rattle.substitutions.specs.Tables.{tables, inverses, sub, unsub, substitutions, unsubstitutions}
-use Rattle.substitutions.proofs.Inverse.{sub-lt, unsub-lt, unsub-sub, sub-unsub}
-use Rattle.lookup.specs.Table.{gather, sealTable, openTable}
-use Rattle.lookup.proofs.Laws.{gather-seal, gather-open, gather-ext}
+use Rattle.substitutions.proofs.Inverse.{sub-lt, unsub-sub}
+use Rattle.lookup.specs.Table.{openTable}
+use Rattle.lookup.proofs.Laws.{gather-open, gather-ext}
 use Rattle.open_laws.specs.Opening.{unmixed, swapped}
 
 row : (i x : ℕ) → x < 256 → (256 * (i % 4) + x) / 256 ≡ i % 4

@@ -12,6 +12,10 @@ use Rattle.kalyna.specs.Round.{subKey, xorKey, unmix}
 use Rattle.kalyna.specs.Block.{moves}
 use Rattle.kalyna.proofs.Rows.{back}
 
+-- before the rounds: the key k subtracted, and mixed back
+unfoldable pub firstRound : ℕ → List ℕ → List ℕ → List ℕ
+firstRound c k s = unmix c (subKey c k s)
+
 -- a round: shift and substitute back, mix back, and the key k, itself mixed back, added modulo 2
 unfoldable pub openRound : ℕ → List ℕ → List ℕ → List ℕ
 openRound c k y = xorKey c k (unmix c (back (moves c) c y))
@@ -21,9 +25,13 @@ unfoldable pub openRounds : ℕ → (ℕ → List ℕ) → ℕ → List ℕ → 
 openRounds c K zero y = y
 openRounds c K (suc n) y = openRounds c K n (openRound c (K (suc n)) y)
 
+-- after the rounds: shift and substitute back, and the key k subtracted
+unfoldable pub lastRound : ℕ → List ℕ → List ℕ → List ℕ
+lastRound c k y = subKey c k (back (moves c) c y)
+
 -- keys t and 0 are subtracted as they are, keys 1 to t - 1 stand mixed back
 unfoldable pub openWith : ℕ → ℕ → (ℕ → List ℕ) → List ℕ → List ℕ
-openWith c t K s = subKey c (K 0) (back (moves c) c (openRounds c K (t - 1) (unmix c (subKey c (K t) s))))
+openWith c t K s = lastRound c (K 0) (openRounds c K (t - 1) (firstRound c (K t) s))
 
 -- a column mixed back (6.4.5)
 unfoldable pub unmixed : ℕ → ℕ

@@ -80,8 +80,8 @@ fn opened(suite: u64, key: &[u8], block: &[u8]) -> [u8; 64] {
 }
 
 // Whether the first bytes are these.
-fn begins(o: &[u8; 64], want: &[u8]) -> bool {
-    if want.len() > 64 {
+fn begins(o: &[u8], want: &[u8]) -> bool {
+    if want.len() > o.len() {
         return false;
     }
     check::same(&o[..want.len()], want)
@@ -145,6 +145,6 @@ fn suite_5(count: u64) -> u64 {
 
 fn main() {
     let count = suite_5(suite_4(suite_3(suite_2(suite_1(0)))));
-    io::number::print_decimal(STDOUT_FILENO, count);
+    io::print_decimal(STDOUT_FILENO, count);
     io::write_all(STDOUT_FILENO, b" of 15 as printed\n");
 }

@@ -1,16 +1,11 @@
-use mathlib.Core.Path.{_≡_, refl, sym, ap, ap₂, subst, _∙_}
-use Prim.Native.Nat.{ℕ, _+_, _-_, _*_, _/_, _%_, _^_, _≤_, _<_}
-use native.Mathlib.Omega.{arith}
-use lib.ListN.{getD, length}
+use mathlib.Core.Path.{ap, _∙_}
+use Prim.Native.Nat.{_+_, _*_, _/_}
+use lib.ListN.{getD}
 use denote.Ref.{now}
-use Rattle.open_block.proofs.Bytes.{low, high}
+use Rattle.open_block.proofs.Bytes.{high}
 use borrow.Author.Needs.{needs}
 use Rattle.open_block.proofs.high_at.Statement.{statement}
 use Rattle.open_block.proofs.high_at.Tie as tie
-use Rattle.open_block.proofs.high_at.Reads as reads
-use Rattle.open_block.proofs.high_at.Lts as lts
-use Rattle.open_block.proofs.place.Reads as place-reads
-use Rattle.open_block.proofs.wide.Reads as wide-reads
 
 -- src/lib.rt:40:12
 mul-wide : tie.Need-mul-wide

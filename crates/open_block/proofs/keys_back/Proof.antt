@@ -1,16 +1,12 @@
 use borrow.Author.Needs.{needs}
-use mathlib.Core.Path.{_≡_, refl, sym, ap, ap₂, subst, _∙_}
-use Prim.Native.Nat.{ℕ, _+_, _-_, _*_, _/_, _%_, _^_, _≤_, _<_}
+use mathlib.Core.Path.{subst}
+use Prim.Native.Nat.{_-_, _*_, _≤_}
 use native.Mathlib.Omega.{arith}
-use lib.ListN.{getD, length}
 use denote.Ref.{now}
 use Rattle.open_laws.specs.Opening.{Unmixed}
 use Rattle.open_laws.proofs.Cells.{unmixed-none, unmixed-more, first-key}
 use Rattle.open_block.proofs.keys_back.Statement.{statement}
 use Rattle.open_block.proofs.keys_back.Tie as tie
-use Rattle.open_block.proofs.keys_back.Reads as reads
-use Rattle.open_block.proofs.keys_back.Lts as lts
-use Rattle.open_block.proofs.swap.Reads as swap-reads
 
 abbrev Inv-loop : tie.InvT-loop
 Inv-loop t p ks₀ c r end k₀ ks k = (c ≤ k) × (k ≤ c * r) × Unmixed c k ks₀ ks

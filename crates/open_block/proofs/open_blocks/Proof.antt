@@ -1,18 +1,8 @@
-use mathlib.Core.Path.{_≡_, refl, sym, ap, ap₂, subst, _∙_}
-use Prim.Native.Nat.{ℕ, _+_, _-_, _*_, _/_, _%_, _^_, _≤_, _<_}
-use native.Mathlib.Nat.{mul-zero}
-use native.Mathlib.Omega.{arith}
-use lib.ListN.{getD, length}
 use denote.Ref.{now}
 use Rattle.open_laws.proofs.Cells.{walk-whole}
 use borrow.Author.Needs.{needs}
 use Rattle.open_block.proofs.open_blocks.Statement.{statement}
 use Rattle.open_block.proofs.open_blocks.Tie as tie
-use Rattle.open_block.proofs.open_blocks.Reads as reads
-use Rattle.open_block.proofs.open_blocks.Lts as lts
-use Rattle.open_block.proofs.start_blocks.Reads as start-blocks-reads
-use Rattle.open_block.proofs.walks.Reads as walks-reads
-use Rattle.open_last.proofs.last_blocks.Reads as last-blocks-reads
 
 -- src/lib.rt:129:37
 mul-start-blocks : tie.Need-mul-start-blocks

@@ -1,7 +1,6 @@
 use borrow.Author.Needs.{needs}
-use mathlib.Core.Path.{_≡_, refl, sym, ap, ap₂, subst, _∙_}
-use Prim.Native.Nat.{ℕ, _+_, _-_, _*_, _/_, _%_, _^_, _≤_, _<_}
-use native.Mathlib.Nat.{mul-zero}
+use mathlib.Core.Path.{_≡_, refl, ap, _∙_}
+use Prim.Native.Nat.{_+_, _-_, _%_, _^_, _≤_}
 use native.Mathlib.Omega.{arith}
 use lib.ListN.{getD, length}
 use denote.Ref.{now}
@@ -11,12 +10,6 @@ use Rattle.blocks.proofs.Laws.{sub-is}
 use Rattle.open_laws.specs.Opening.{swapped}
 use Rattle.open_block.proofs.start_block.Statement.{statement}
 use Rattle.open_block.proofs.start_block.Tie as tie
-use Rattle.open_block.proofs.start_block.Reads as reads
-use Rattle.open_block.proofs.start_block.Lts as lts
-use Rattle.open_block.proofs.swap.Reads as swap-reads
-use Rattle.std.proofs.num.wrapping_sub_u64.Reads as wrapping-sub-u64-reads
-use Rattle.words.proofs.put_word.Reads as put-word-reads
-use Rattle.words.proofs.word_at.Reads as word-at-reads
 
 abbrev Inv-loop : tie.InvT-loop
 Inv-loop t p s₀ w c ks at j₀ s j = (j ≤ c) × (s ≡ putWords s₀ w j (λ j. swapped t p ((wordAt s₀ (w + j) + 2 ^ 64 - getD ks (at + j) 0 % 2 ^ 64) % 2 ^ 64)))

@@ -1,17 +1,8 @@
-use mathlib.Core.Path.{_≡_, refl, sym, ap, ap₂, subst, _∙_}
-use Prim.Native.Nat.{ℕ, _+_, _-_, _*_, _/_, _%_, _^_, _≤_, _<_}
-use native.Mathlib.Omega.{arith}
-use lib.ListN.{getD, length}
 use denote.Ref.{now}
 use Rattle.open_laws.proofs.Cells.{swap-is}
 use borrow.Author.Needs.{needs}
 use Rattle.open_block.proofs.swap.Statement.{statement}
 use Rattle.open_block.proofs.swap.Tie as tie
-use Rattle.open_block.proofs.swap.Reads as reads
-use Rattle.open_block.proofs.swap.Lts as lts
-use Rattle.columns.proofs.column.Reads as column-reads
-use Rattle.open_block.proofs.high_at.Reads as high-at-reads
-use Rattle.open_block.proofs.low_at.Reads as low-at-reads
 
 -- src/lib.rt:47:9
 low-at-requires : tie.Need-low-at-requires

@@ -1,17 +1,9 @@
-use mathlib.Core.Path.{_≡_, refl, sym, ap, ap₂, subst, _∙_}
-use Prim.Native.Nat.{ℕ, _+_, _-_, _*_, _/_, _%_, _^_, _≤_, _<_}
-use native.Mathlib.Omega.{arith}
-use lib.ListN.{getD, length}
+use lib.ListN.{length}
 use denote.Ref.{now}
 use Rattle.open_laws.proofs.Cells.{room-at, round-2, round-at, width-8}
 use borrow.Author.Needs.{needs}
 use Rattle.open_block.proofs.walk.Statement.{statement}
 use Rattle.open_block.proofs.walk.Tie as tie
-use Rattle.open_block.proofs.walk.Reads as reads
-use Rattle.open_block.proofs.walk.Lts as lts
-use Rattle.open_rounds.proofs.walk4.Reads as walk4-reads
-use Rattle.open_rounds.proofs.walk8.Reads as walk8-reads
-use Rattle.seal_rounds.proofs.walk2.Reads as walk2-reads
 
 -- src/lib.rt:91:9
 walk2-requires : tie.Need-walk2-requires

@@ -1,17 +1,13 @@
 use borrow.Author.Needs.{needs}
-use mathlib.Core.Path.{_≡_, refl, sym, ap, ap₂, subst, _∙_}
-use Prim.Native.Nat.{ℕ, _+_, _-_, _*_, _/_, _%_, _^_, _≤_, _<_}
+use Prim.Native.Nat.{_-_, _<_}
 use native.Mathlib.Omega.{arith}
-use lib.ListN.{getD, length}
+use lib.ListN.{length}
 use denote.Ref.{now}
 use Rattle.blocks.specs.Blocks.{keysOf}
 use Rattle.open_laws.specs.Opening.{openRounds}
 use Rattle.open_laws.proofs.Cells.{key-room, Nears, nears-all, nears-less, nears-none}
 use Rattle.open_block.proofs.walks.Statement.{statement}
 use Rattle.open_block.proofs.walks.Tie as tie
-use Rattle.open_block.proofs.walks.Reads as reads
-use Rattle.open_block.proofs.walks.Lts as lts
-use Rattle.open_block.proofs.walk.Reads as walk-reads
 
 abbrev Inv-loop : tie.InvT-loop
 Inv-loop t s₀ n c r ks v₀ s v = (v < r) × Nears c n (openRounds c (keysOf c ks) v) (openRounds c (keysOf c ks) (r - 1)) s₀ s

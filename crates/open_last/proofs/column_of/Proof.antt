@@ -1,16 +1,8 @@
-use mathlib.Core.Path.{_≡_, refl, sym, ap, ap₂, subst, _∙_}
-use Prim.Native.Nat.{ℕ, _+_, _-_, _*_, _/_, _%_, _^_, _≤_, _<_}
-use native.Mathlib.Nat.{add-zero, mul-zero}
-use native.Mathlib.Omega.{arith}
-use lib.ListN.{getD, length}
 use denote.Ref.{now}
 use Rattle.open_last.proofs.Laws.{column-is}
 use borrow.Author.Needs.{needs}
 use Rattle.open_last.proofs.column_of.Statement.{statement}
 use Rattle.open_last.proofs.column_of.Tie as tie
-use Rattle.open_last.proofs.column_of.Reads as reads
-use Rattle.open_last.proofs.column_of.Lts as lts
-use Rattle.open_last.proofs.byte_at.Reads as byte-at-reads
 
 -- src/lib.rt:41:13
 byte-at-requires : tie.Need-byte-at-requires

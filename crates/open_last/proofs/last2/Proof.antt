@@ -1,18 +1,11 @@
-use mathlib.Core.Path.{_≡_, refl, sym, ap, ap₂, subst, _∙_}
-use Prim.Native.Nat.{ℕ, _+_, _-_, _*_, _/_, _%_, _^_, _≤_, _<_}
-use native.Mathlib.Nat.{add-zero, mul-zero}
-use native.Mathlib.Omega.{arith}
-use lib.ListN.{getD, length}
+use mathlib.Core.Path.{sym, ap, _∙_}
+use native.Mathlib.Nat.{add-zero}
 use denote.Ref.{now}
 use Rattle.words.specs.Words.{wordAt}
 use Rattle.open_last.proofs.Laws.{last-2}
 use borrow.Author.Needs.{needs}
 use Rattle.open_last.proofs.last2.Statement.{statement}
 use Rattle.open_last.proofs.last2.Tie as tie
-use Rattle.open_last.proofs.last2.Reads as reads
-use Rattle.open_last.proofs.last2.Lts as lts
-use Rattle.open_last.proofs.column_of.Reads as column-of-reads
-use Rattle.words.proofs.word_at.Reads as word-at-reads
 
 -- src/lib.rt:55:9
 word-at-requires : tie.Need-word-at-requires

@@ -1,7 +1,6 @@
 use borrow.Author.Needs.{needs}
-use mathlib.Core.Path.{_≡_, refl, sym, ap, ap₂, subst, _∙_}
-use Prim.Native.Nat.{ℕ, _+_, _-_, _*_, _/_, _%_, _^_, _≤_, _<_}
-use native.Mathlib.Nat.{add-zero, mul-zero}
+use mathlib.Core.Path.{_≡_, refl, ap, _∙_}
+use Prim.Native.Nat.{_+_, _-_, _%_, _^_, _≤_}
 use native.Mathlib.Omega.{arith}
 use lib.ListN.{getD, length}
 use denote.Ref.{now}
@@ -10,10 +9,6 @@ use Rattle.words.proofs.Walks.{length-puts, puts-more}
 use Rattle.blocks.proofs.Laws.{sub-is}
 use Rattle.open_last.proofs.less_block.Statement.{statement}
 use Rattle.open_last.proofs.less_block.Tie as tie
-use Rattle.open_last.proofs.less_block.Reads as reads
-use Rattle.open_last.proofs.less_block.Lts as lts
-use Rattle.std.proofs.num.wrapping_sub_u64.Reads as wrapping-sub-u64-reads
-use Rattle.words.proofs.put_word.Reads as put-word-reads
 
 abbrev Inv-loop : tie.InvT-loop
 Inv-loop s₀ w c ks at x j₀ s j = (j ≤ c) × (s ≡ putWords s₀ w j (λ j. (getD x j 0 + 2 ^ 64 - getD ks (at + j) 0 % 2 ^ 64) % 2 ^ 64))

@@ -1,0 +1,73 @@
+use Rattle.vectors.proofs.columns_are.Statement.{statement}
+use Rattle.vectors.proofs.columns_are.Tie as tie
+use Rattle.vectors.proofs.columns_are.Reads as reads
+use Rattle.vectors.proofs.columns_are.Lts as lts
+use Rattle.vectors.proofs.byte_of.Reads as byte-of-reads
+
+abbrev Inv-loop : tie.InvT-loop
+Inv-loop ks want i₀ i = ?
+
+abbrev μ-loop : tie.MeasureT-loop
+μ-loop ks want i₀ i = ?
+
+-- src/main.rt:13:5
+loop-holds : tie.Need-loop-holds Inv-loop μ-loop
+loop-holds c = ?
+
+-- src/main.rt:16:13
+returns : tie.Need-returns Inv-loop μ-loop
+returns c = ?
+
+-- src/main.rt:18:20
+mul-byte-of : tie.Need-mul-byte-of Inv-loop μ-loop
+mul-byte-of c = ?
+
+-- src/main.rt:18:20
+shared-slice-read-byte-of : tie.Need-shared-slice-read-byte-of Inv-loop μ-loop
+shared-slice-read-byte-of c = ?
+
+-- src/main.rt:18:12
+byte-of-requires : tie.Need-byte-of-requires Inv-loop μ-loop
+byte-of-requires c κs = ?
+
+-- src/main.rt:18:33
+shared-slice-read-if2 : tie.Need-shared-slice-read-if2 Inv-loop μ-loop
+shared-slice-read-if2 c = ?
+
+-- src/main.rt:19:13
+returns-2 : tie.Need-returns-2 Inv-loop μ-loop
+returns-2 c = ?
+
+-- src/main.rt:21:9
+add-i : tie.Need-add-i Inv-loop μ-loop
+add-i c = ?
+
+-- src/main.rt:13:5
+loop-less : tie.Need-loop-less Inv-loop μ-loop
+loop-less c = ?
+
+-- src/main.rt:13:5
+loop-again : tie.Need-loop-again Inv-loop μ-loop
+loop-again c = ?
+
+-- src/main.rt:11:1
+returns-3 : tie.Need-returns-3 Inv-loop μ-loop
+returns-3 c = ?
+
+pub columns-are-spec : {M : Type 1} → statement M
+columns-are-spec =
+    tie.close
+    (tie.spec
+    Inv-loop
+    μ-loop
+    loop-holds
+    returns
+    mul-byte-of
+    shared-slice-read-byte-of
+    byte-of-requires
+    shared-slice-read-if2
+    returns-2
+    add-i
+    loop-less
+    loop-again
+    returns-3)

@@ -1,0 +1,58 @@
+use borrow.Author.Needs.{needs}
+use Rattle.vectors.proofs.round_keys.Statement.{statement}
+use Rattle.vectors.proofs.round_keys.Tie as tie
+use Rattle.vectors.proofs.round_keys.Reads as reads
+use Rattle.vectors.proofs.round_keys.Lts as lts
+use Rattle.keys.proofs.schedule.Reads as schedule-reads
+use Rattle.seal_table.proofs.table.Reads as table-reads
+use Rattle.suites.proofs.suite_of.Reads as suite-of-reads
+
+-- src/main.rt:28:27
+suite-of-requires : tie.Need-suite-of-requires
+suite-of-requires c κs = search needs
+
+-- src/main.rt:28:22
+enum-known-s : tie.Need-enum-known-s
+enum-known-s c = search needs
+
+-- src/main.rt:29:9
+enum-told : tie.Need-enum-told
+enum-told c = search needs
+
+-- src/main.rt:29:9
+returns : tie.Need-returns
+returns c = search needs
+
+-- src/main.rt:33:21
+mul-if1 : tie.Need-mul-if1
+mul-if1 c = search needs
+
+-- src/main.rt:34:9
+returns-2 : tie.Need-returns-2
+returns-2 c = search needs
+
+-- src/main.rt:36:13
+table-requires : tie.Need-table-requires
+table-requires c κs = search needs
+
+-- src/main.rt:37:5
+schedule-requires : tie.Need-schedule-requires
+schedule-requires c κs = ?
+
+-- src/main.rt:27:1
+returns-3 : tie.Need-returns-3
+returns-3 c = search needs
+
+pub round-keys-spec : {M : Type 1} → statement M
+round-keys-spec =
+    tie.close
+    (tie.spec
+    suite-of-requires
+    enum-known-s
+    enum-told
+    returns
+    mul-if1
+    returns-2
+    table-requires
+    schedule-requires
+    returns-3)
