@@ -1,3 +1,12 @@
+use mathlib.Core.Path.{_≡_, refl, sym, ap, _∙_}
+use Prim.Native.Nat.{ℕ, _+_, _-_, _*_, _≤_}
+use native.Mathlib.Nat.{mul-suc}
+use native.Mathlib.Numerals.{add-one}
+use native.Mathlib.Omega.{arith}
+use lib.ListN.{length}
+use Rattle.suite_laws.specs.Row.{Row}
+use Rattle.suite_laws.proofs.Rows.{known-row}
+use Rattle.seal_block.proofs.Laws.{width-le}
 use borrow.Author.Needs.{needs}
 use Rattle.vectors.proofs.opened.Statement.{statement}
 use Rattle.vectors.proofs.opened.Tie as tie
@@ -31,7 +40,7 @@ returns c = search needs
 
 -- src/main.rt:66:23
 mul-if1 : tie.Need-mul-if1
-mul-if1 c = ?
+mul-if1 c = let row : Row (c .before .s .given .0 .0) = known-row (c .before .before .before .before .before .before .args .suite) (c .before .s .given .0 .0) (sym (c .before .before .before .suite-of .ensures) ∙ c .before .s .given .1) in omega (arith, width-le (c .before .s .given .0 .0 .columns) (row .width))
 
 -- src/main.rt:67:9
 returns-2 : tie.Need-returns-2
@@ -59,7 +68,7 @@ slice-aggregate-keys-back c = search needs
 
 -- src/main.rt:74:5
 keys-back-requires : tie.Need-keys-back-requires
-keys-back-requires c κs = ?
+keys-back-requires c κs = let row : Row (c .before .before .before .before .before .before .before .before .before .s .given .0 .0) = known-row (c .before .before .before .before .before .before .before .before .before .before .before .before .before .before .args .suite) (c .before .before .before .before .before .before .before .before .before .s .given .0 .0) (sym (c .before .before .before .before .before .before .before .before .before .before .before .suite-of .ensures) ∙ c .before .before .before .before .before .before .before .before .before .s .given .1) in (c .before .before .before .before .before .table .ensures, c .before .before .before .before .forward .ensures, row .some, omega (arith, row .room, (ap (λ x. (c .before .before .before .before .before .before .before .before .before .s .given .0 .0 .columns) * x) (add-one (c .before .before .before .before .before .before .before .before .before .s .given .0 .0 .rounds)) ∙ mul-suc (c .before .before .before .before .before .before .before .before .before .s .given .0 .0 .columns) (c .before .before .before .before .before .before .before .before .before .s .given .0 .0 .rounds))))
 
 -- src/main.rt:76:17
 slice-aggregate-load : tie.Need-slice-aggregate-load
@@ -67,7 +76,7 @@ slice-aggregate-load c = search needs
 
 -- src/main.rt:76:5
 load-requires : tie.Need-load-requires
-load-requires c κs = ?
+load-requires c κs = let row : Row (c .before .before .before .before .before .before .before .before .before .before .before .before .s .given .0 .0) = known-row (c .before .before .before .before .before .before .before .before .before .before .before .before .before .before .before .before .before .args .suite) (c .before .before .before .before .before .before .before .before .before .before .before .before .s .given .0 .0) (sym (c .before .before .before .before .before .before .before .before .before .before .before .before .before .before .suite-of .ensures) ∙ c .before .before .before .before .before .before .before .before .before .before .before .before .s .given .1) in omega (arith, width-le (c .before .before .before .before .before .before .before .before .before .before .before .before .s .given .0 .0 .columns) (row .width), c .before .before .before .before .before .before .before .before .before .before .if1 .left)
 
 -- src/main.rt:77:43
 slice-aggregate-open-blocks : tie.Need-slice-aggregate-open-blocks
@@ -79,7 +88,7 @@ slice-aggregate-open-blocks-2 c = search needs
 
 -- src/main.rt:77:5
 open-blocks-requires : tie.Need-open-blocks-requires
-open-blocks-requires c κs = ?
+open-blocks-requires c κs = let row : Row (c .before .before .before .before .before .before .before .before .before .before .before .before .before .before .before .before .before .before .before .s .given .0 .0) = known-row (c .before .before .before .before .before .before .before .before .before .before .before .before .before .before .before .before .before .before .before .before .before .before .before .before .args .suite) (c .before .before .before .before .before .before .before .before .before .before .before .before .before .before .before .before .before .before .before .s .given .0 .0) (sym (c .before .before .before .before .before .before .before .before .before .before .before .before .before .before .before .before .before .before .before .before .before .suite-of .ensures) ∙ c .before .before .before .before .before .before .before .before .before .before .before .before .before .before .before .before .before .before .before .s .given .1) in (c .before .before .before .before .before .before .before .before .before .before .before .before .before .before .before .table .ensures, c .before .before .before .before .before .before .before .before .before .before .before .before .before .before .forward .ensures, c .before .before .before .before .before .before .before .before .before .before .before .before .before .backward .ensures, row .width, row .some, omega (arith, width-le (c .before .before .before .before .before .before .before .before .before .before .before .before .before .before .before .before .before .before .before .s .given .0 .0 .columns) (row .width), c .before .before .before .before .before .before .load .kept .0), omega (arith, row .room, c .before .before .before .before .before .before .before .before .before .keys-back .kept .1 .1 .0))
 
 -- src/main.rt:78:18
 slice-aggregate-store : tie.Need-slice-aggregate-store
@@ -91,7 +100,7 @@ slice-aggregate-store-2 c = search needs
 
 -- src/main.rt:78:5
 store-requires : tie.Need-store-requires
-store-requires c κs = ?
+store-requires c κs = let row : Row (c .before .before .before .before .before .before .before .before .before .before .before .before .before .before .before .before .before .before .before .before .before .before .before .s .given .0 .0) = known-row (c .before .before .before .before .before .before .before .before .before .before .before .before .before .before .before .before .before .before .before .before .before .before .before .before .before .before .before .before .args .suite) (c .before .before .before .before .before .before .before .before .before .before .before .before .before .before .before .before .before .before .before .before .before .before .before .s .given .0 .0) (sym (c .before .before .before .before .before .before .before .before .before .before .before .before .before .before .before .before .before .before .before .before .before .before .before .before .before .suite-of .ensures) ∙ c .before .before .before .before .before .before .before .before .before .before .before .before .before .before .before .before .before .before .before .before .before .before .before .s .given .1) in omega (arith, width-le (c .before .before .before .before .before .before .before .before .before .before .before .before .before .before .before .before .before .before .before .before .before .before .before .s .given .0 .0 .columns) (row .width), c .before .before .before .before .before .before .before .before .before .before .load .kept .0, c .before .before .before .open-blocks .kept .1 .1 .1 .0)
 
 -- src/main.rt:60:1
 returns-3 : tie.Need-returns-3

@@ -1,3 +1,12 @@
+use mathlib.Core.Path.{_≡_, refl, sym, ap, _∙_}
+use Prim.Native.Nat.{ℕ, _+_, _-_, _*_, _≤_}
+use native.Mathlib.Nat.{mul-suc}
+use native.Mathlib.Numerals.{add-one}
+use native.Mathlib.Omega.{arith}
+use lib.ListN.{length}
+use Rattle.suite_laws.specs.Row.{Row}
+use Rattle.suite_laws.proofs.Rows.{known-row}
+use Rattle.seal_block.proofs.Laws.{width-le}
 use borrow.Author.Needs.{needs}
 use Rattle.vectors.proofs.round_keys.Statement.{statement}
 use Rattle.vectors.proofs.round_keys.Tie as tie
@@ -37,7 +46,7 @@ table-requires c κs = search needs
 
 -- src/main.rt:37:5
 schedule-requires : tie.Need-schedule-requires
-schedule-requires c κs = ?
+schedule-requires c κs = let row : Row (c .before .before .before .before .before .before .s .given .0 .0) = known-row (c .before .before .before .before .before .before .before .before .before .before .args .suite) (c .before .before .before .before .before .before .s .given .0 .0) (sym (c .before .before .before .before .before .before .before .before .suite-of .ensures) ∙ c .before .before .before .before .before .before .s .given .1) in (c .before .table .ensures, row .sized, c .before .before .if1 .left, row .even, row .most)
 
 -- src/main.rt:27:1
 returns-3 : tie.Need-returns-3

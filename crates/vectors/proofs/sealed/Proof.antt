@@ -1,3 +1,12 @@
+use mathlib.Core.Path.{_≡_, refl, sym, ap, _∙_}
+use Prim.Native.Nat.{ℕ, _+_, _-_, _*_, _≤_}
+use native.Mathlib.Nat.{mul-suc}
+use native.Mathlib.Numerals.{add-one}
+use native.Mathlib.Omega.{arith}
+use lib.ListN.{length}
+use Rattle.suite_laws.specs.Row.{Row}
+use Rattle.suite_laws.proofs.Rows.{known-row}
+use Rattle.seal_block.proofs.Laws.{width-le}
 use borrow.Author.Needs.{needs}
 use Rattle.vectors.proofs.sealed.Statement.{statement}
 use Rattle.vectors.proofs.sealed.Tie as tie
@@ -28,7 +37,7 @@ returns c = search needs
 
 -- src/main.rt:47:23
 mul-if1 : tie.Need-mul-if1
-mul-if1 c = ?
+mul-if1 c = let row : Row (c .before .s .given .0 .0) = known-row (c .before .before .before .before .before .before .args .suite) (c .before .s .given .0 .0) (sym (c .before .before .before .suite-of .ensures) ∙ c .before .s .given .1) in omega (arith, width-le (c .before .s .given .0 .0 .columns) (row .width))
 
 -- src/main.rt:48:9
 returns-2 : tie.Need-returns-2
@@ -48,7 +57,7 @@ slice-aggregate-load c = search needs
 
 -- src/main.rt:53:5
 load-requires : tie.Need-load-requires
-load-requires c κs = ?
+load-requires c κs = let row : Row (c .before .before .before .before .before .s .given .0 .0) = known-row (c .before .before .before .before .before .before .before .before .before .before .args .suite) (c .before .before .before .before .before .s .given .0 .0) (sym (c .before .before .before .before .before .before .before .suite-of .ensures) ∙ c .before .before .before .before .before .s .given .1) in omega (arith, width-le (c .before .before .before .before .before .s .given .0 .0 .columns) (row .width), c .before .before .before .if1 .left)
 
 -- src/main.rt:54:35
 slice-aggregate-seal-blocks : tie.Need-slice-aggregate-seal-blocks
@@ -60,7 +69,7 @@ slice-aggregate-seal-blocks-2 c = search needs
 
 -- src/main.rt:54:5
 seal-blocks-requires : tie.Need-seal-blocks-requires
-seal-blocks-requires c κs = ?
+seal-blocks-requires c κs = let row : Row (c .before .before .before .before .before .before .before .before .before .before .s .given .0 .0) = known-row (c .before .before .before .before .before .before .before .before .before .before .before .before .before .before .before .args .suite) (c .before .before .before .before .before .before .before .before .before .before .s .given .0 .0) (sym (c .before .before .before .before .before .before .before .before .before .before .before .before .suite-of .ensures) ∙ c .before .before .before .before .before .before .before .before .before .before .s .given .1) in (c .before .before .before .before .before .before .table .ensures, row .width, row .some, omega (arith, width-le (c .before .before .before .before .before .before .before .before .before .before .s .given .0 .0 .columns) (row .width), c .before .before .before .before .load .kept .0), omega (arith, row .room), row .most)
 
 -- src/main.rt:55:18
 slice-aggregate-store : tie.Need-slice-aggregate-store
@@ -72,7 +81,7 @@ slice-aggregate-store-2 c = search needs
 
 -- src/main.rt:55:5
 store-requires : tie.Need-store-requires
-store-requires c κs = ?
+store-requires c κs = let row : Row (c .before .before .before .before .before .before .before .before .before .before .before .before .before .before .s .given .0 .0) = known-row (c .before .before .before .before .before .before .before .before .before .before .before .before .before .before .before .before .before .before .before .args .suite) (c .before .before .before .before .before .before .before .before .before .before .before .before .before .before .s .given .0 .0) (sym (c .before .before .before .before .before .before .before .before .before .before .before .before .before .before .before .before .suite-of .ensures) ∙ c .before .before .before .before .before .before .before .before .before .before .before .before .before .before .s .given .1) in omega (arith, width-le (c .before .before .before .before .before .before .before .before .before .before .before .before .before .before .s .given .0 .0 .columns) (row .width), c .before .before .before .before .before .before .before .before .load .kept .0, c .before .before .before .seal-blocks .kept .1 .0)
 
 -- src/main.rt:41:1
 returns-3 : tie.Need-returns-3
