@@ -76,12 +76,15 @@ pub other-turn : (c kc e : ℕ) → (c ≡ kc → ⊥) → laneTurn c kc e ≡ e
 unfolding laneTurn pick
 other-turn c kc e h = ap (λ b. pick b e (e / 2 + e % 2 * c)) (ne-eqb c kc h)
 
--- it is small
-pub turn-le : (c e : ℕ) → c ≤ 8 → e ≤ 9 → e / 2 + e % 2 * c ≤ 16
-turn-le c e h l = omega (arith, mul-le-mul-right c (bit (omega arith)))
-  where
-    bit : e % 2 < 2 → e % 2 ≤ 1
-    bit l = omega arith
+-- a half and a digit of it times c are small
+pub turn-le : {a m c : ℕ} → a ≤ 8 → m ≤ 1 → c ≤ 8 → a + m * c ≤ 16
+turn-le {a} {m} {c} h l g = omega (arith, mul-le-mul-right c l)
+
+pub turn-fits : {a m c : ℕ} → a ≤ 8 → m ≤ 1 → c ≤ 8 → a + m * c < 2 ^ 64
+turn-fits {a} {m} {c} h l g = omega (arith, turn-le h l g)
+
+pub digit-fits : {m c : ℕ} → m ≤ 1 → c ≤ 8 → m * c < 2 ^ 64
+digit-fits {m} {c} l g = omega (arith, mul-le-mul-right c l)
 
 turned-at : (kc : ℕ) (k : List ℕ) (n j : ℕ) → j < kc → getD (turnKey kc k n) j 0 ≡ getD k ((j + n) % kc) 0
 unfolding turnKey
@@ -235,14 +238,7 @@ unfolding oddWord pick
 odd-more c x y e =
     sym (ap (λ b. pick b (x / 72057594037927936 + y % 72057594037927936 * 256) (x / 16777216 + y % 16777216 * 1099511627776)) (ne-eqb c 2 e))
 
-pub two-fits : (x y : ℕ) → x < 2 ^ 64 → x / 72057594037927936 + y % 72057594037927936 * 256 < 2 ^ 64
-two-fits x y h =
-    subst (λ n. n < 2 ^ 64) (add-comm (y % 72057594037927936 * 256) (x / 72057594037927936))
-    (digits-lt {q = y % 72057594037927936} {m = 72057594037927936} {r = x / 72057594037927936} {c = 256} (mod-lt y (omega arith))
-    (div-lt-iff-lt-mul {k = 72057594037927936} {x = x} {y = 256} (omega arith) .1 h))
-
-pub more-fits : (x y : ℕ) → x < 2 ^ 64 → x / 16777216 + y % 16777216 * 1099511627776 < 2 ^ 64
-more-fits x y h =
-    subst (λ n. n < 2 ^ 64) (add-comm (y % 16777216 * 1099511627776) (x / 16777216))
-    (digits-lt {q = y % 16777216} {m = 16777216} {r = x / 16777216} {c = 1099511627776} (mod-lt y (omega arith))
-    (div-lt-iff-lt-mul {k = 16777216} {x = x} {y = 1099511627776} (omega arith) .1 h))
+-- parts of two columns fit a column
+pub part-fits : (p q x y : ℕ) → x < q * p → 0 < p → x / p + y % p * q < p * q
+part-fits p q x y h g =
+    subst (λ n. n < p * q) (add-comm (y % p * q) (x / p)) (digits-lt {q = y % p} {m = p} {r = x / p} {c = q} (mod-lt y g) (div-lt-iff-lt-mul {k = p} {x = x} {y = q} g .1 h))
