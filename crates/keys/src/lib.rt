@@ -1,6 +1,6 @@
 // The round keys of a key (document 003, 6.5). All even keys are made at once, as lanes of one walk.
 ghost use mathlib.Core.Path.{_≡_};
-ghost use Prim.Native.Nat.{_+_, _*_, _/_, _%_, _^_, _≤_};
+ghost use Prim.Native.Nat.{_+_, _*_, _/_, _%_, _^_, _≤_, _<_};
 ghost use lib.ListN.{getD, length};
 ghost use Rattle.lookup.specs.Table.{sealTable};
 ghost use Rattle.words.specs.Words.{wordAt, putWords, blockAt};
@@ -38,7 +38,7 @@ fn added(x: u64, y: u64) -> u64
 // The remainder by a width.
 fn around(n: usize, c: usize) -> usize
     requires { ⌜ Width c ⌝ }
-    ensures { λ r. ⌜ r ≡ n % c ⌝ }
+    ensures { λ r. ⌜ (r ≡ n % c) × (r < c) ⌝ }
 {
     n & (c - 1)
 }

@@ -4,9 +4,8 @@ use Prim.Native.Nat.{ℕ, _+_, _-_, _*_, _/_, _%_, _^_, _≤_, _<_}
 use native.Mathlib.Omega.{arith}
 use lib.ListN.{getD, length}
 use denote.Ref.{now}
-use native.Mathlib.Nat.{mod-lt}
 use Rattle.key_laws.specs.Stores.{Lane}
-use Rattle.key_laws.proofs.Turns.{width-le, width-pos}
+use Rattle.key_laws.proofs.Turns.{width-le}
 use Rattle.key_laws.proofs.Loops.{lane-none, lane-more, lane-long}
 use Rattle.keys.proofs.lane.Statement.{statement}
 use Rattle.keys.proofs.lane.Tie as tie
@@ -47,27 +46,27 @@ mul-a c = omega (arith, c .before .before .before .before .before .before .befor
 slice-write-a : tie.Need-slice-write-a Inv-loop μ-loop
 slice-write-a c = omega (arith, c .before .before .before .loop .inv .1 .addends .long)
 
--- src/lib.rt:78:13
+-- src/lib.rt:76:28
 add-put-word : tie.Need-add-put-word Inv-loop μ-loop
 add-put-word c = search needs
 
--- src/lib.rt:79:28
+-- src/lib.rt:76:50
 add-around : tie.Need-add-around Inv-loop μ-loop
 add-around c = omega arith
 
--- src/lib.rt:79:21
+-- src/lib.rt:76:43
 around-requires : tie.Need-around-requires Inv-loop μ-loop
 around-requires c κs = c .before .before .before .before .before .before .before .before .before .pre .0
 
--- src/lib.rt:79:19
+-- src/lib.rt:76:41
 mul-added : tie.Need-mul-added Inv-loop μ-loop
-mul-added c = omega (arith, width-le (c .before .before .before .before .before .before .before .before .before .before .args .kc) (c .before .before .before .before .before .before .before .before .before .before .pre .0), c .around .ensures, mod-lt (c .before .before .before .before .before .loop .j + c .before .before .before .before .before .before .before .before .before .before .args .u) (width-pos (c .before .before .before .before .before .before .before .before .before .before .args .kc) (c .before .before .before .before .before .before .before .before .before .before .pre .0)))
+mul-added c = omega (arith, width-le (c .before .before .before .before .before .before .before .before .before .before .args .kc) (c .before .before .before .before .before .before .before .before .before .before .pre .0), c .around .ensures .1)
 
--- src/lib.rt:79:19
+-- src/lib.rt:76:41
 shared-slice-read-added : tie.Need-shared-slice-read-added Inv-loop μ-loop
-shared-slice-read-added c = omega (arith, c .before .around .ensures, mod-lt (c .before .before .before .before .before .before .loop .j + c .before .before .before .before .before .before .before .before .before .before .before .args .u) (width-pos (c .before .before .before .before .before .before .before .before .before .before .before .args .kc) (c .before .before .before .before .before .before .before .before .before .before .before .pre .0)))
+shared-slice-read-added c = omega (arith, c .before .around .ensures .1)
 
--- src/lib.rt:79:13
+-- src/lib.rt:76:35
 added-requires-2 : tie.Need-added-requires-2 Inv-loop μ-loop
 added-requires-2 c κs = search needs
 
@@ -75,7 +74,7 @@ added-requires-2 c κs = search needs
 put-word-requires : tie.Need-put-word-requires Inv-loop μ-loop
 put-word-requires c κs = omega (arith, lane-long (c .before .before .before .before .before .before .before .loop .j) (c .before .before .before .before .before .before .before .before .before .before .before .before .args .kc) (now (c .before .before .before .before .before .before .before .before .before .before .before .before .args .k)) (now (c .before .before .before .before .before .before .before .before .before .before .before .before .args .h)) (c .before .before .before .before .before .before .before .before .before .before .before .before .args .w) (c .before .before .before .before .before .before .before .before .before .before .before .before .args .u) (c .before .before .before .before .before .before .before .before .before .before .before .before .args .g) (now (c .before .before .before .before .before .before .before .before .before .before .before .before .args .a)) (c .before .before .before .before .before .before .before .loop .a) (now (c .before .before .before .before .before .before .before .before .before .before .before .before .args .s)) (c .before .before .before .before .before .before .before .loop .s) (c .before .before .before .before .before .before .before .loop .inv .1))
 
--- src/lib.rt:81:9
+-- src/lib.rt:77:9
 add-j : tie.Need-add-j Inv-loop μ-loop
 add-j c = search needs
 
@@ -85,7 +84,7 @@ loop-less c = search needs
 
 -- src/lib.rt:73:5
 loop-again : tie.Need-loop-again Inv-loop μ-loop
-loop-again c = (omega arith, lane-more (c .before .before .before .before .before .before .before .before .before .before .loop .j) (c .before .before .before .before .before .before .before .before .before .before .before .before .before .before .before .args .kc) (now (c .before .before .before .before .before .before .before .before .before .before .before .before .before .before .before .args .k)) (now (c .before .before .before .before .before .before .before .before .before .before .before .before .before .before .before .args .h)) (c .before .before .before .before .before .before .before .before .before .before .before .before .before .before .before .args .w) (c .before .before .before .before .before .before .before .before .before .before .before .before .before .before .before .args .u) (c .before .before .before .before .before .before .before .before .before .before .before .before .before .before .before .args .g) (now (c .before .before .before .before .before .before .before .before .before .before .before .before .before .before .before .args .a)) (c .before .before .before .before .before .before .before .before .before .before .loop .a) (now (c .before .before .before .before .before .before .before .before .before .before .before .before .before .before .before .args .s)) (c .before .before .before .before .before .before .before .before .before .before .loop .s) (c .before .before .put-word .last .0) (c .before .before .before .before .before .before .before .added .result) (c .before .before .before .added2 .result) (c .before .before .before .before .before .before .before .before .before .before .loop .inv .1) (omega arith) (c .before .before .before .before .before .before .before .added .ensures ∙ ap (λ x. (x + c .before .before .before .before .before .before .before .before .before .before .before .before .before .before .before .args .g) % 2 ^ 64) (c .before .before .before .before .before .before .before .before .word-at .ensures)) (c .before .before .before .added2 .ensures ∙ ap (λ n. (getD (now (c .before .before .before .before .before .before .before .before .before .before .before .before .before .before .before .args .k)) n 0 + c .before .before .before .before .before .before .before .added .result) % 2 ^ 64) (c .before .before .before .before .before .around .ensures)) (c .before .before .put-word .ensures))
+loop-again c = (omega arith, lane-more (c .before .before .before .before .before .before .before .before .before .before .loop .j) (c .before .before .before .before .before .before .before .before .before .before .before .before .before .before .before .args .kc) (now (c .before .before .before .before .before .before .before .before .before .before .before .before .before .before .before .args .k)) (now (c .before .before .before .before .before .before .before .before .before .before .before .before .before .before .before .args .h)) (c .before .before .before .before .before .before .before .before .before .before .before .before .before .before .before .args .w) (c .before .before .before .before .before .before .before .before .before .before .before .before .before .before .before .args .u) (c .before .before .before .before .before .before .before .before .before .before .before .before .before .before .before .args .g) (now (c .before .before .before .before .before .before .before .before .before .before .before .before .before .before .before .args .a)) (c .before .before .before .before .before .before .before .before .before .before .loop .a) (now (c .before .before .before .before .before .before .before .before .before .before .before .before .before .before .before .args .s)) (c .before .before .before .before .before .before .before .before .before .before .loop .s) (c .before .before .put-word .last .0) (c .before .before .before .before .before .before .before .added .result) (c .before .before .before .added2 .result) (c .before .before .before .before .before .before .before .before .before .before .loop .inv .1) (omega arith) (c .before .before .before .before .before .before .before .added .ensures ∙ ap (λ x. (x + c .before .before .before .before .before .before .before .before .before .before .before .before .before .before .before .args .g) % 2 ^ 64) (c .before .before .before .before .before .before .before .before .word-at .ensures)) (c .before .before .before .added2 .ensures ∙ ap (λ n. (getD (now (c .before .before .before .before .before .before .before .before .before .before .before .before .before .before .before .args .k)) n 0 + c .before .before .before .before .before .before .before .added .result) % 2 ^ 64) (c .before .before .before .before .before .around .ensures .0)) (c .before .before .put-word .ensures))
 
 -- src/lib.rt:58:1
 same-length : tie.Need-same-length Inv-loop μ-loop
