@@ -1,12 +1,13 @@
 -- One turn of each loop.
 use mathlib.Core.Path.{_≡_, refl, sym, ap, ap₂, _∙_, subst}
 use mathlib.Core.Logic.{_⊎_, ⊎-elim}
-use mathlib.Core.List.{List}
+use mathlib.Core.List.{List, _++_}
 use Prim.Native.Nat.{ℕ, zero, suc, _+_, _-_, _*_, _/_, _%_, _^_, _<_, _≤_}
 use native.Mathlib.Nat.{mul-le-mul, mul-le-mul-left, mul-suc, mul-zero, zero-add, mod-lt, add-zero}
 use native.Mathlib.Numerals.{add-one}
 use native.Mathlib.Omega.{arith}
-use lib.ListN.{getD, length, set}
+use lib.ListN.{getD, length, set, take, drop}
+use lib.Seq.{take-at}
 use Rattle.common.proofs.Places.{length-tab}
 use Rattle.kalyna.specs.State.{columnsOf}
 use Rattle.field.specs.Xor.{xor}
@@ -89,6 +90,13 @@ keys-fit c r h l = mul-le-mul {n₁ = c} {m₁ = 2 * (r / 2 + 1)} {n₂ = 8} {m�
 pub odd-fit : (c r l : ℕ) → c ≤ 8 → r ≤ 18 → l ≡ 160 → c * (2 * (r / 2)) ≤ l
 odd-fit c r l h m e = subst (λ l. c * (2 * (r / 2)) ≤ l) (sym e) (mul-le-mul {n₁ = c} {m₁ = 2 * (r / 2)} {n₂ = 8} {m₂ = 20} h (omega arith))
 
-pub columns-long : (n : ℕ) (b : List ℕ) → length (columnsOf n b) ≡ n
+columns-long : (n : ℕ) (b : List ℕ) → length (columnsOf n b) ≡ n
 unfolding columnsOf
 columns-long n b = length-tab n _
+
+-- the columns of the key, loaded at the front
+pub loaded : (n : ℕ) (b k k₀ : List ℕ) → k ≡ columnsOf n b ++ drop n k₀ → take n k ≡ columnsOf n b
+loaded n b k k₀ e = ap (take n) e ∙ take-at (columnsOf n b) (drop n k₀) n (columns-long n b)
+
+pub loaded-long : (n : ℕ) (b k k₀ : List ℕ) → k ≡ columnsOf n b ++ drop n k₀ → length (take n k) ≡ n
+loaded-long n b k k₀ e = ap length (loaded n b k k₀ e) ∙ columns-long n b

@@ -48,9 +48,9 @@ no-key c n s s′ h w = walk-as c n _ _ s s′ (λ i l. zero-key c _ h (ssm-stat
 -- ---- the helper key
 
 -- the number that it starts from, as a block
-pub start-is : (c kc v : ℕ) → 0 < c → c ≤ 8 → kc ≤ 8 → v ≡ c + kc + 1 → blockAt c (putWord (noughts 32) 0 v) 0 ≡ start c kc
+pub start-is : (c kc v : ℕ) (s : List ℕ) → s ≡ putWord (noughts 32) 0 v → v ≡ c + kc + 1 → c ≤ 8 → kc ≤ 8 → blockAt c s 0 ≡ start c kc
 unfolding blockAt start
-start-is c kc v p h g e = tab-ext c _ _ (λ j l. one j l (ℕ-discrete j 0))
+start-is c kc v s es e h g = tab-ext c _ _ (λ j l. ap (λ s. wordAt s (c * 0 + j)) es ∙ one j l (ℕ-discrete j 0))
   where
     number : c + kc + 1 ≡ startNumber (64 * c) (64 * kc)
     number = unfold startNumber in omega arith

@@ -58,6 +58,9 @@ mask c n w = ⊎-elim (at 2 (and-mask n 1)) (⊎-elim (at 4 (and-mask n 2)) (at 
     at : (d : ℕ) → bitAnd n (d - 1) ≡ n % d → c ≡ d → bitAnd n (c - 1) ≡ n % c
     at d h e = subst (λ c. bitAnd n (c - 1) ≡ n % c) (sym e) h
 
+pub mask-lt : (c n : ℕ) → Width c → bitAnd n (c - 1) < c
+mask-lt c n w = subst (λ x. x < c) (sym (mask c n w)) (mod-lt n (width-pos c w))
+
 -- ---- what enters an even index
 
 pick-true : (b : Bool) (x y : List ℕ) → b ≡ true → pick b x y ≡ x
@@ -70,18 +73,21 @@ pick-false b x y e = ap (λ b. pick b x y) e
 
 pub same-turn : (c kc e : ℕ) → c ≡ kc → laneTurn c kc e ≡ e
 unfolding laneTurn pick
-same-turn c kc e h = ap (λ b. pick b e (e / 2 + e % 2 * c)) (eq-eqb c kc h)
+same-turn c kc e h = rw (eq-eqb c kc h)
 
 pub other-turn : (c kc e : ℕ) → (c ≡ kc → ⊥) → laneTurn c kc e ≡ e / 2 + e % 2 * c
 unfolding laneTurn pick
-other-turn c kc e h = ap (λ b. pick b e (e / 2 + e % 2 * c)) (ne-eqb c kc h)
+other-turn c kc e h = rw (ne-eqb c kc h)
 
--- it is small
-pub turn-le : (c e : ℕ) → c ≤ 8 → e ≤ 9 → e / 2 + e % 2 * c ≤ 16
-turn-le c e h l = omega (arith, mul-le-mul-right c (bit (omega arith)))
-  where
-    bit : e % 2 < 2 → e % 2 ≤ 1
-    bit l = omega arith
+-- a half and a digit of it times c are small
+pub turn-le : {a m c : ℕ} → a ≤ 8 → m ≤ 1 → c ≤ 8 → a + m * c ≤ 16
+turn-le {a} {m} {c} h l g = omega (arith, mul-le-mul-right c l)
+
+pub turn-fits : {a m c : ℕ} → a ≤ 8 → m ≤ 1 → c ≤ 8 → a + m * c < 2 ^ 64
+turn-fits {a} {m} {c} h l g = omega (arith, turn-le h l g)
+
+pub digit-fits : {m c : ℕ} → m ≤ 1 → c ≤ 8 → m * c < 2 ^ 64
+digit-fits {m} {c} l g = omega (arith, mul-le-mul-right c l)
 
 turned-at : (kc : ℕ) (k : List ℕ) (n j : ℕ) → j < kc → getD (turnKey kc k n) j 0 ≡ getD k ((j + n) % kc) 0
 unfolding turnKey
@@ -227,22 +233,13 @@ odd-word c k j w = ⊎-elim (at 2 (odd-2 k j)) (⊎-elim (at 4 (odd-4 k j)) (at 
 
 pub odd-two : (c x y : ℕ) → c ≡ 2 → x / 72057594037927936 + y % 72057594037927936 * 256 ≡ oddWord c x y
 unfolding oddWord pick
-odd-two c x y e =
-    sym (ap (λ b. pick b (x / 72057594037927936 + y % 72057594037927936 * 256) (x / 16777216 + y % 16777216 * 1099511627776)) (eq-eqb c 2 e))
+odd-two c x y e = rw (eq-eqb c 2 e)
 
 pub odd-more : (c x y : ℕ) → (c ≡ 2 → ⊥) → x / 16777216 + y % 16777216 * 1099511627776 ≡ oddWord c x y
 unfolding oddWord pick
-odd-more c x y e =
-    sym (ap (λ b. pick b (x / 72057594037927936 + y % 72057594037927936 * 256) (x / 16777216 + y % 16777216 * 1099511627776)) (ne-eqb c 2 e))
+odd-more c x y e = rw (ne-eqb c 2 e)
 
-pub two-fits : (x y : ℕ) → x < 2 ^ 64 → x / 72057594037927936 + y % 72057594037927936 * 256 < 2 ^ 64
-two-fits x y h =
-    subst (λ n. n < 2 ^ 64) (add-comm (y % 72057594037927936 * 256) (x / 72057594037927936))
-    (digits-lt {q = y % 72057594037927936} {m = 72057594037927936} {r = x / 72057594037927936} {c = 256} (mod-lt y (omega arith))
-    (div-lt-iff-lt-mul {k = 72057594037927936} {x = x} {y = 256} (omega arith) .1 h))
-
-pub more-fits : (x y : ℕ) → x < 2 ^ 64 → x / 16777216 + y % 16777216 * 1099511627776 < 2 ^ 64
-more-fits x y h =
-    subst (λ n. n < 2 ^ 64) (add-comm (y % 16777216 * 1099511627776) (x / 16777216))
-    (digits-lt {q = y % 16777216} {m = 16777216} {r = x / 16777216} {c = 1099511627776} (mod-lt y (omega arith))
-    (div-lt-iff-lt-mul {k = 16777216} {x = x} {y = 1099511627776} (omega arith) .1 h))
+-- parts of two columns fit a column
+pub part-fits : (p q x y : ℕ) → x < q * p → 0 < p → x / p + y % p * q < p * q
+part-fits p q x y h g =
+    subst (λ n. n < p * q) (add-comm (y % p * q) (x / p)) (digits-lt {q = y % p} {m = p} {r = x / p} {c = q} (mod-lt y g) (div-lt-iff-lt-mul {k = p} {x = x} {y = q} g .1 h))

@@ -1,6 +1,6 @@
 // The round keys of a key (document 003, 6.5). All even keys are made at once, as lanes of one walk.
 ghost use mathlib.Core.Path.{_≡_};
-ghost use Prim.Native.Nat.{_+_, _*_, _/_, _%_, _^_, _≤_};
+ghost use Prim.Native.Nat.{_+_, _*_, _/_, _%_, _^_, _≤_, _<_};
 ghost use lib.ListN.{getD, length};
 ghost use Rattle.lookup.specs.Table.{sealTable};
 ghost use Rattle.words.specs.Words.{wordAt, putWords, blockAt};
@@ -28,10 +28,17 @@ fn helper_key(t: &[u8; 8192], k: &[u64], c: usize, kc: usize) -> [u16; 32]
     s
 }
 
+// 6.3.2: columns are added modulo 2^64.
+fn added(x: u64, y: u64) -> u64
+    ensures { λ r. ⌜ r ≡ (x + y) % 2 ^ 64 ⌝ }
+{
+    std::num::wrapping_add_u64(x, y)
+}
+
 // The remainder by a width.
 fn around(n: usize, c: usize) -> usize
     requires { ⌜ Width c ⌝ }
-    ensures { λ r. ⌜ r ≡ n % c ⌝ }
+    ensures { λ r. ⌜ (r ≡ n % c) × (r < c) ⌝ }
 {
     n & (c - 1)
 }
@@ -64,13 +71,9 @@ fn lane(
 {
     let mut j: usize = 0;
     while j < c {
-        let x = std::num::wrapping_add_u64(words::word_at(h, j), g);
+        let x = added(words::word_at(h, j), g);
         a[w + j] = x;
-        words::put_word(
-            s,
-            w + j,
-            std::num::wrapping_add_u64(k[around(j + u, kc)], x),
-        );
+        words::put_word(s, w + j, added(k[around(j + u, kc)], x));
         j += 1;
     }
 }
@@ -85,7 +88,7 @@ fn lanes(s: &mut [u16], a: &mut [u64], h: &[u16], k: &[u64], c: usize, kc: usize
     let mut i: usize = 0;
     while i < n {
         lane(s, a, w, h, g, k, c, kc, turn_of(c, kc, i));
-        g = std::num::wrapping_add_u64(g, g);
+        g = added(g, g);
         w += c;
         i += 1;
     }
@@ -112,7 +115,7 @@ fn keep(ks: &mut [u64], at: usize, s: &[u16], a: &[u64], w: usize, c: usize)
 {
     let mut j: usize = 0;
     while j < c {
-        ks[at + j] = std::num::wrapping_add_u64(words::word_at(s, w + j), a[w + j]);
+        ks[at + j] = added(words::word_at(s, w + j), a[w + j]);
         j += 1;
     }
 }

@@ -1,11 +1,12 @@
 use mathlib.Core.Path.{_≡_, refl, sym, ap, ap₂, subst, _∙_}
 use Prim.Native.Nat.{ℕ, _+_, _-_, _*_, _/_, _%_, _^_, _≤_, _<_}
 use native.Mathlib.Omega.{arith}
+use native.Mathlib.Nat.{mul-zero}
 use lib.ListN.{getD, length}
 use denote.Ref.{now}
 use Rattle.words.specs.Words.{blockAt}
 use Rattle.words.proofs.Laws.{length-put}
-use Rattle.key_laws.proofs.Turns.{width-le, width-pos, halves-le}
+use Rattle.key_laws.proofs.Turns.{width-le, halves-le}
 use Rattle.key_laws.proofs.Rounds.{noughts, start-is, helper-is}
 use borrow.Author.Needs.{needs}
 use Rattle.keys.proofs.helper_key.Statement.{statement}
@@ -38,7 +39,7 @@ slice-aggregate-add-keys c = search needs
 
 -- src/lib.rt:23:5
 add-keys-requires : tie.Need-add-keys-requires
-add-keys-requires c κs = (omega (arith, width-le (c .before .before .before .before .before .args .c) (c .before .before .before .before .before .pre .1 .width), c .before .before .before .before .before .pre .1 .most, ap length (c .before .before .put-word .ensures) ∙ length-put (noughts 32) 0 (c .before .before .before .before .before .args .c + c .before .before .before .before .before .args .kc + 1)), omega (arith, halves-le (c .before .before .before .before .before .args .c) (c .before .before .before .before .before .args .kc) (c .before .before .before .before .before .pre .1 .halves)))
+add-keys-requires c κs = (omega (arith, width-le (c .before .before .before .before .before .args .c) (c .before .before .before .before .before .pre .1 .width), c .before .before .before .before .before .pre .1 .most, ap length (c .before .before .put-word .ensures) ∙ length-put (noughts 32) 0 _), omega (arith, halves-le (c .before .before .before .before .before .args .c) (c .before .before .before .before .before .args .kc) (c .before .before .before .before .before .pre .1 .halves)))
 
 -- src/lib.rt:24:26
 slice-aggregate-round : tie.Need-slice-aggregate-round
@@ -46,11 +47,11 @@ slice-aggregate-round c = search needs
 
 -- src/lib.rt:24:43
 sub-round : tie.Need-sub-round
-sub-round c = halves-le (c .before .before .before .before .before .before .before .before .args .c) (c .before .before .before .before .before .before .before .before .args .kc) (c .before .before .before .before .before .before .before .before .pre .1 .halves)
+sub-round c = omega (arith, halves-le (c .before .before .before .before .before .before .before .before .args .c) (c .before .before .before .before .before .before .before .before .args .kc) (c .before .before .before .before .before .before .before .before .pre .1 .halves))
 
 -- src/lib.rt:24:5
 round-requires : tie.Need-round-requires
-round-requires c κs = (c .before .before .before .before .before .before .before .before .pre .0, c .before .before .before .before .before .before .before .before .pre .1 .width, omega (arith, width-le (c .before .before .before .before .before .before .before .before .args .c) (c .before .before .before .before .before .before .before .before .pre .1 .width), c .before .before .before .before .before .before .before .before .pre .1 .most, ap length (c .before .before .before .before .before .put-word .ensures) ∙ length-put (noughts 32) 0 (c .before .before .before .before .before .before .before .before .args .c + c .before .before .before .before .before .before .before .before .args .kc + 1), c .before .before .add-keys .ensures .long), omega (arith, halves-le (c .before .before .before .before .before .before .before .before .args .c) (c .before .before .before .before .before .before .before .before .args .kc) (c .before .before .before .before .before .before .before .before .pre .1 .halves)))
+round-requires c κs = (c .before .before .before .before .before .before .before .before .pre .0, c .before .before .before .before .before .before .before .before .pre .1 .width, omega (arith, width-le (c .before .before .before .before .before .before .before .before .args .c) (c .before .before .before .before .before .before .before .before .pre .1 .width), c .before .before .before .before .before .before .before .before .pre .1 .most, ap length (c .before .before .before .before .before .put-word .ensures) ∙ length-put (noughts 32) 0 _, c .before .before .add-keys .ensures .long), omega (arith, halves-le (c .before .before .before .before .before .before .before .before .args .c) (c .before .before .before .before .before .before .before .before .args .kc) (c .before .before .before .before .before .before .before .before .pre .1 .halves)))
 
 -- src/lib.rt:25:26
 slice-aggregate-round-2 : tie.Need-slice-aggregate-round-2
@@ -62,7 +63,7 @@ slice-aggregate-round-3 c = search needs
 
 -- src/lib.rt:25:5
 round-requires-2 : tie.Need-round-requires-2
-round-requires-2 c κs = (c .before .before .before .before .before .before .before .before .before .before .before .before .pre .0, c .before .before .before .before .before .before .before .before .before .before .before .before .pre .1 .width, omega (arith, width-le (c .before .before .before .before .before .before .before .before .before .before .before .before .args .c) (c .before .before .before .before .before .before .before .before .before .before .before .before .pre .1 .width), c .before .before .before .before .before .before .before .before .before .before .before .before .pre .1 .most, ap length (c .before .before .before .before .before .before .before .before .before .put-word .ensures) ∙ length-put (noughts 32) 0 (c .before .before .before .before .before .before .before .before .before .before .before .before .args .c + c .before .before .before .before .before .before .before .before .before .before .before .before .args .kc + 1), c .before .before .before .before .before .before .add-keys .ensures .long, c .before .before .before .round .ensures .long), omega (arith, width-le (c .before .before .before .before .before .before .before .before .before .before .before .before .args .c) (c .before .before .before .before .before .before .before .before .before .before .before .before .pre .1 .width), c .before .before .before .before .before .before .before .before .before .before .before .before .pre .1 .most))
+round-requires-2 c κs = (c .before .before .before .before .before .before .before .before .before .before .before .before .pre .0, c .before .before .before .before .before .before .before .before .before .before .before .before .pre .1 .width, omega (arith, width-le (c .before .before .before .before .before .before .before .before .before .before .before .before .args .c) (c .before .before .before .before .before .before .before .before .before .before .before .before .pre .1 .width), c .before .before .before .before .before .before .before .before .before .before .before .before .pre .1 .most, ap length (c .before .before .before .before .before .before .before .before .before .put-word .ensures) ∙ length-put (noughts 32) 0 _, c .before .before .before .before .before .before .add-keys .ensures .long, c .before .before .before .round .ensures .long), omega (arith, width-le (c .before .before .before .before .before .before .before .before .before .before .before .before .args .c) (c .before .before .before .before .before .before .before .before .before .before .before .before .pre .1 .width), c .before .before .before .before .before .before .before .before .before .before .before .before .pre .1 .most))
 
 -- src/lib.rt:26:22
 slice-aggregate-add-keys-2 : tie.Need-slice-aggregate-add-keys-2
@@ -70,7 +71,7 @@ slice-aggregate-add-keys-2 c = search needs
 
 -- src/lib.rt:26:5
 add-keys-requires-2 : tie.Need-add-keys-requires-2
-add-keys-requires-2 c κs = (omega (arith, width-le (c .before .before .before .before .before .before .before .before .before .before .before .before .before .before .before .args .c) (c .before .before .before .before .before .before .before .before .before .before .before .before .before .before .before .pre .1 .width), c .before .before .before .before .before .before .before .before .before .before .before .before .before .before .before .pre .1 .most, ap length (c .before .before .before .before .before .before .before .before .before .before .before .before .put-word .ensures) ∙ length-put (noughts 32) 0 (c .before .before .before .before .before .before .before .before .before .before .before .before .before .before .before .args .c + c .before .before .before .before .before .before .before .before .before .before .before .before .before .before .before .args .kc + 1), c .before .before .before .before .before .before .before .before .before .add-keys .ensures .long, c .before .before .before .before .before .before .round .ensures .long, c .before .before .round2 .ensures .long), omega (arith, halves-le (c .before .before .before .before .before .before .before .before .before .before .before .before .before .before .before .args .c) (c .before .before .before .before .before .before .before .before .before .before .before .before .before .before .before .args .kc) (c .before .before .before .before .before .before .before .before .before .before .before .before .before .before .before .pre .1 .halves)))
+add-keys-requires-2 c κs = (omega (arith, width-le (c .before .before .before .before .before .before .before .before .before .before .before .before .before .before .before .args .c) (c .before .before .before .before .before .before .before .before .before .before .before .before .before .before .before .pre .1 .width), c .before .before .before .before .before .before .before .before .before .before .before .before .before .before .before .pre .1 .most, ap length (c .before .before .before .before .before .before .before .before .before .before .before .before .put-word .ensures) ∙ length-put (noughts 32) 0 _, c .before .before .before .before .before .before .before .before .before .add-keys .ensures .long, c .before .before .before .before .before .before .round .ensures .long, c .before .before .round2 .ensures .long), omega (arith, halves-le (c .before .before .before .before .before .before .before .before .before .before .before .before .before .before .before .args .c) (c .before .before .before .before .before .before .before .before .before .before .before .before .before .before .before .args .kc) (c .before .before .before .before .before .before .before .before .before .before .before .before .before .before .before .pre .1 .halves)))
 
 -- src/lib.rt:27:26
 slice-aggregate-round-4 : tie.Need-slice-aggregate-round-4
@@ -82,11 +83,11 @@ slice-aggregate-round-5 c = search needs
 
 -- src/lib.rt:27:5
 round-requires-3 : tie.Need-round-requires-3
-round-requires-3 c κs = (c .before .before .before .before .before .before .before .before .before .before .before .before .before .before .before .before .before .before .before .pre .0, c .before .before .before .before .before .before .before .before .before .before .before .before .before .before .before .before .before .before .before .pre .1 .width, omega (arith, width-le (c .before .before .before .before .before .before .before .before .before .before .before .before .before .before .before .before .before .before .before .args .c) (c .before .before .before .before .before .before .before .before .before .before .before .before .before .before .before .before .before .before .before .pre .1 .width), c .before .before .before .before .before .before .before .before .before .before .before .before .before .before .before .before .before .before .before .pre .1 .most, ap length (c .before .before .before .before .before .before .before .before .before .before .before .before .before .before .before .before .put-word .ensures) ∙ length-put (noughts 32) 0 (c .before .before .before .before .before .before .before .before .before .before .before .before .before .before .before .before .before .before .before .args .c + c .before .before .before .before .before .before .before .before .before .before .before .before .before .before .before .before .before .before .before .args .kc + 1), c .before .before .before .before .before .before .before .before .before .before .before .before .before .add-keys .ensures .long, c .before .before .before .before .before .before .before .before .before .before .round .ensures .long, c .before .before .before .before .before .before .round2 .ensures .long, c .before .before .before .add-keys2 .ensures .long), omega (arith, width-le (c .before .before .before .before .before .before .before .before .before .before .before .before .before .before .before .before .before .before .before .args .c) (c .before .before .before .before .before .before .before .before .before .before .before .before .before .before .before .before .before .before .before .pre .1 .width), c .before .before .before .before .before .before .before .before .before .before .before .before .before .before .before .before .before .before .before .pre .1 .most))
+round-requires-3 c κs = (c .before .before .before .before .before .before .before .before .before .before .before .before .before .before .before .before .before .before .before .pre .0, c .before .before .before .before .before .before .before .before .before .before .before .before .before .before .before .before .before .before .before .pre .1 .width, omega (arith, width-le (c .before .before .before .before .before .before .before .before .before .before .before .before .before .before .before .before .before .before .before .args .c) (c .before .before .before .before .before .before .before .before .before .before .before .before .before .before .before .before .before .before .before .pre .1 .width), c .before .before .before .before .before .before .before .before .before .before .before .before .before .before .before .before .before .before .before .pre .1 .most, ap length (c .before .before .before .before .before .before .before .before .before .before .before .before .before .before .before .before .put-word .ensures) ∙ length-put (noughts 32) 0 _, c .before .before .before .before .before .before .before .before .before .before .before .before .before .add-keys .ensures .long, c .before .before .before .before .before .before .before .before .before .before .round .ensures .long, c .before .before .before .before .before .before .round2 .ensures .long, c .before .before .before .add-keys2 .ensures .long), omega (arith, width-le (c .before .before .before .before .before .before .before .before .before .before .before .before .before .before .before .before .before .before .before .args .c) (c .before .before .before .before .before .before .before .before .before .before .before .before .before .before .before .before .before .before .before .pre .1 .width), c .before .before .before .before .before .before .before .before .before .before .before .before .before .before .before .before .before .before .before .pre .1 .most))
 
 -- src/lib.rt:16:1
 returns : tie.Need-returns
-returns c = (c .before .round3 .ensures .long ∙ c .before .before .before .before .before .add-keys2 .ensures .long ∙ c .before .before .before .before .before .before .before .before .round2 .ensures .long ∙ c .before .before .before .before .before .before .before .before .before .before .before .before .round .ensures .long ∙ c .before .before .before .before .before .before .before .before .before .before .before .before .before .before .before .add-keys .ensures .long ∙ ap length (c .before .before .before .before .before .before .before .before .before .before .before .before .before .before .before .before .before .before .put-word .ensures) ∙ length-put (noughts 32) 0 (c .before .before .before .before .before .before .before .before .before .before .before .before .before .before .before .before .before .before .before .before .before .args .c + c .before .before .before .before .before .before .before .before .before .before .before .before .before .before .before .before .before .before .before .before .before .args .kc + 1), helper-is (c .before .before .before .before .before .before .before .before .before .before .before .before .before .before .before .before .before .before .before .before .before .args .c) (c .before .before .before .before .before .before .before .before .before .before .before .before .before .before .before .before .before .before .before .before .before .args .kc) (now (c .before .before .before .before .before .before .before .before .before .before .before .before .before .before .before .before .before .before .before .before .before .args .k)) (c .before .before .before .before .before .before .before .before .before .before .before .before .before .before .before .before .before .before .put-word .last .0) (c .before .before .before .before .before .before .before .before .before .before .before .before .before .before .before .add-keys .last .0) (c .before .before .before .before .before .before .before .before .before .before .before .before .round .last .1 .0) (c .before .before .before .before .before .before .before .before .round2 .last .1 .0) (c .before .before .before .before .before .add-keys2 .last .0) (c .before .round3 .last .1 .0) (width-le (c .before .before .before .before .before .before .before .before .before .before .before .before .before .before .before .before .before .before .before .before .before .args .c) (c .before .before .before .before .before .before .before .before .before .before .before .before .before .before .before .before .before .before .before .before .before .pre .1 .width)) (ap (λ x. blockAt (c .before .before .before .before .before .before .before .before .before .before .before .before .before .before .before .before .before .before .before .before .before .args .c) x 0) (c .before .before .before .before .before .before .before .before .before .before .before .before .before .before .before .before .before .before .put-word .ensures) ∙ start-is (c .before .before .before .before .before .before .before .before .before .before .before .before .before .before .before .before .before .before .before .before .before .args .c) (c .before .before .before .before .before .before .before .before .before .before .before .before .before .before .before .before .before .before .before .before .before .args .kc) (c .before .before .before .before .before .before .before .before .before .before .before .before .before .before .before .before .before .before .before .before .before .args .c + c .before .before .before .before .before .before .before .before .before .before .before .before .before .before .before .before .before .before .before .before .before .args .kc + 1) (width-pos (c .before .before .before .before .before .before .before .before .before .before .before .before .before .before .before .before .before .before .before .before .before .args .c) (c .before .before .before .before .before .before .before .before .before .before .before .before .before .before .before .before .before .before .before .before .before .pre .1 .width)) (width-le (c .before .before .before .before .before .before .before .before .before .before .before .before .before .before .before .before .before .before .before .before .before .args .c) (c .before .before .before .before .before .before .before .before .before .before .before .before .before .before .before .before .before .before .before .before .before .pre .1 .width)) (c .before .before .before .before .before .before .before .before .before .before .before .before .before .before .before .before .before .before .before .before .before .pre .1 .most) refl) (c .before .before .before .before .before .before .before .before .before .before .before .before .before .before .before .add-keys .ensures) (c .before .before .before .before .before .before .before .before .before .before .before .before .round .ensures) (c .before .before .before .before .before .before .before .before .round2 .ensures) (c .before .before .before .before .before .add-keys2 .ensures) (c .before .round3 .ensures))
+returns c = (c .before .round3 .ensures .long ∙ c .before .before .before .before .before .add-keys2 .ensures .long ∙ c .before .before .before .before .before .before .before .before .round2 .ensures .long ∙ c .before .before .before .before .before .before .before .before .before .before .before .before .round .ensures .long ∙ c .before .before .before .before .before .before .before .before .before .before .before .before .before .before .before .add-keys .ensures .long ∙ ap length (c .before .before .before .before .before .before .before .before .before .before .before .before .before .before .before .before .before .before .put-word .ensures) ∙ length-put (noughts 32) 0 _, helper-is (c .before .before .before .before .before .before .before .before .before .before .before .before .before .before .before .before .before .before .before .before .before .args .c) (c .before .before .before .before .before .before .before .before .before .before .before .before .before .before .before .before .before .before .before .before .before .args .kc) (now (c .before .before .before .before .before .before .before .before .before .before .before .before .before .before .before .before .before .before .before .before .before .args .k)) (c .before .before .before .before .before .before .before .before .before .before .before .before .before .before .before .before .before .before .put-word .last .0) (c .before .before .before .before .before .before .before .before .before .before .before .before .before .before .before .add-keys .last .0) (c .before .before .before .before .before .before .before .before .before .before .before .before .round .last .1 .0) (c .before .before .before .before .before .before .before .before .round2 .last .1 .0) (c .before .before .before .before .before .add-keys2 .last .0) (c .before .round3 .last .1 .0) (width-le (c .before .before .before .before .before .before .before .before .before .before .before .before .before .before .before .before .before .before .before .before .before .args .c) (c .before .before .before .before .before .before .before .before .before .before .before .before .before .before .before .before .before .before .before .before .before .pre .1 .width)) (start-is (c .before .before .before .before .before .before .before .before .before .before .before .before .before .before .before .before .before .before .before .before .before .args .c) (c .before .before .before .before .before .before .before .before .before .before .before .before .before .before .before .before .before .before .before .before .before .args .kc) _ (c .before .before .before .before .before .before .before .before .before .before .before .before .before .before .before .before .before .before .put-word .last .0) (c .before .before .before .before .before .before .before .before .before .before .before .before .before .before .before .before .before .before .put-word .ensures) (omega arith) (width-le (c .before .before .before .before .before .before .before .before .before .before .before .before .before .before .before .before .before .before .before .before .before .args .c) (c .before .before .before .before .before .before .before .before .before .before .before .before .before .before .before .before .before .before .before .before .before .pre .1 .width)) (c .before .before .before .before .before .before .before .before .before .before .before .before .before .before .before .before .before .before .before .before .before .pre .1 .most)) (c .before .before .before .before .before .before .before .before .before .before .before .before .before .before .before .add-keys .ensures) (c .before .before .before .before .before .before .before .before .before .before .before .before .round .ensures) (c .before .before .before .before .before .before .before .before .round2 .ensures) (c .before .before .before .before .before .add-keys2 .ensures) (c .before .round3 .ensures))
 
 pub helper-key-spec : {M : Type 1} → statement M
 helper-key-spec =

@@ -4,16 +4,15 @@ use Prim.Native.Nat.{ℕ, _+_, _-_, _*_, _/_, _%_, _^_, _≤_, _<_}
 use native.Mathlib.Omega.{arith}
 use lib.ListN.{getD, length}
 use denote.Ref.{now}
-use native.Mathlib.Nat.{mod-lt}
 use Rattle.key_laws.specs.Stores.{Lane}
-use Rattle.key_laws.proofs.Turns.{width-le, width-pos}
+use Rattle.key_laws.proofs.Turns.{width-le}
 use Rattle.key_laws.proofs.Loops.{lane-none, lane-more, lane-long}
 use Rattle.keys.proofs.lane.Statement.{statement}
 use Rattle.keys.proofs.lane.Tie as tie
 use Rattle.keys.proofs.lane.Reads as reads
 use Rattle.keys.proofs.lane.Lts as lts
+use Rattle.keys.proofs.added.Reads as added-reads
 use Rattle.keys.proofs.around.Reads as around-reads
-use Rattle.std.proofs.num.wrapping_add_u64.Reads as wrapping-add-u64-reads
 use Rattle.words.proofs.put_word.Reads as put-word-reads
 use Rattle.words.proofs.word_at.Reads as word-at-reads
 
@@ -23,79 +22,79 @@ Inv-loop s₀ a₀ w h g k c kc u j₀ s a j = (j ≤ c) × Lane j kc k h w u g 
 abbrev μ-loop : tie.MeasureT-loop
 μ-loop s₀ a₀ w h g k c kc u j₀ s a j = c - j
 
--- src/lib.rt:56:5
+-- src/lib.rt:73:5
 loop-holds : tie.Need-loop-holds Inv-loop μ-loop
 loop-holds c = (omega arith, lane-none (c .before .before .before .before .args .kc) (now (c .before .before .before .before .args .k)) (now (c .before .before .before .before .args .h)) (c .before .before .before .before .args .w) (c .before .before .before .before .args .u) (c .before .before .before .before .args .g) (now (c .before .before .before .before .args .a)) (now (c .before .before .before .before .args .s)))
 
--- src/lib.rt:57:44
+-- src/lib.rt:74:23
 word-at-requires : tie.Need-word-at-requires Inv-loop μ-loop
 word-at-requires c κs = search needs
 
--- src/lib.rt:57:13
-wrapping-add-u64-requires : tie.Need-wrapping-add-u64-requires Inv-loop μ-loop
-wrapping-add-u64-requires c κs = search needs
+-- src/lib.rt:74:13
+added-requires : tie.Need-added-requires Inv-loop μ-loop
+added-requires c κs = search needs
 
--- src/lib.rt:58:11
+-- src/lib.rt:75:11
 add-a : tie.Need-add-a Inv-loop μ-loop
 add-a c = omega (arith, c .before .before .before .before .before .before .before .before .good)
 
--- src/lib.rt:58:9
+-- src/lib.rt:75:9
 mul-a : tie.Need-mul-a Inv-loop μ-loop
 mul-a c = omega (arith, c .before .before .before .before .before .before .before .before .good)
 
--- src/lib.rt:58:9
+-- src/lib.rt:75:9
 slice-write-a : tie.Need-slice-write-a Inv-loop μ-loop
 slice-write-a c = omega (arith, c .before .before .before .loop .inv .1 .addends .long)
 
--- src/lib.rt:59:28
+-- src/lib.rt:76:28
 add-put-word : tie.Need-add-put-word Inv-loop μ-loop
 add-put-word c = search needs
 
--- src/lib.rt:59:71
+-- src/lib.rt:76:50
 add-around : tie.Need-add-around Inv-loop μ-loop
 add-around c = omega arith
 
--- src/lib.rt:59:64
+-- src/lib.rt:76:43
 around-requires : tie.Need-around-requires Inv-loop μ-loop
 around-requires c κs = c .before .before .before .before .before .before .before .before .before .pre .0
 
--- src/lib.rt:59:62
-mul-wrapping-add-u64 : tie.Need-mul-wrapping-add-u64 Inv-loop μ-loop
-mul-wrapping-add-u64 c = omega (arith, width-le (c .before .before .before .before .before .before .before .before .before .before .args .kc) (c .before .before .before .before .before .before .before .before .before .before .pre .0), c .around .ensures, mod-lt (c .before .before .before .before .before .loop .j + c .before .before .before .before .before .before .before .before .before .before .args .u) (width-pos (c .before .before .before .before .before .before .before .before .before .before .args .kc) (c .before .before .before .before .before .before .before .before .before .before .pre .0)))
+-- src/lib.rt:76:41
+mul-added : tie.Need-mul-added Inv-loop μ-loop
+mul-added c = omega (arith, width-le (c .before .before .before .before .before .before .before .before .before .before .args .kc) (c .before .before .before .before .before .before .before .before .before .before .pre .0), c .around .ensures .1)
 
--- src/lib.rt:59:62
-shared-slice-read-wrapping-add-u64 : tie.Need-shared-slice-read-wrapping-add-u64 Inv-loop μ-loop
-shared-slice-read-wrapping-add-u64 c = omega (arith, c .before .around .ensures, mod-lt (c .before .before .before .before .before .before .loop .j + c .before .before .before .before .before .before .before .before .before .before .before .args .u) (width-pos (c .before .before .before .before .before .before .before .before .before .before .before .args .kc) (c .before .before .before .before .before .before .before .before .before .before .before .pre .0)))
+-- src/lib.rt:76:41
+shared-slice-read-added : tie.Need-shared-slice-read-added Inv-loop μ-loop
+shared-slice-read-added c = omega (arith, c .before .around .ensures .1)
 
--- src/lib.rt:59:35
-wrapping-add-u64-requires-2 : tie.Need-wrapping-add-u64-requires-2 Inv-loop μ-loop
-wrapping-add-u64-requires-2 c κs = search needs
+-- src/lib.rt:76:35
+added-requires-2 : tie.Need-added-requires-2 Inv-loop μ-loop
+added-requires-2 c κs = search needs
 
--- src/lib.rt:59:9
+-- src/lib.rt:76:9
 put-word-requires : tie.Need-put-word-requires Inv-loop μ-loop
 put-word-requires c κs = omega (arith, lane-long (c .before .before .before .before .before .before .before .loop .j) (c .before .before .before .before .before .before .before .before .before .before .before .before .args .kc) (now (c .before .before .before .before .before .before .before .before .before .before .before .before .args .k)) (now (c .before .before .before .before .before .before .before .before .before .before .before .before .args .h)) (c .before .before .before .before .before .before .before .before .before .before .before .before .args .w) (c .before .before .before .before .before .before .before .before .before .before .before .before .args .u) (c .before .before .before .before .before .before .before .before .before .before .before .before .args .g) (now (c .before .before .before .before .before .before .before .before .before .before .before .before .args .a)) (c .before .before .before .before .before .before .before .loop .a) (now (c .before .before .before .before .before .before .before .before .before .before .before .before .args .s)) (c .before .before .before .before .before .before .before .loop .s) (c .before .before .before .before .before .before .before .loop .inv .1))
 
--- src/lib.rt:60:9
+-- src/lib.rt:77:9
 add-j : tie.Need-add-j Inv-loop μ-loop
 add-j c = search needs
 
--- src/lib.rt:56:5
+-- src/lib.rt:73:5
 loop-less : tie.Need-loop-less Inv-loop μ-loop
 loop-less c = search needs
 
--- src/lib.rt:56:5
+-- src/lib.rt:73:5
 loop-again : tie.Need-loop-again Inv-loop μ-loop
-loop-again c = (omega arith, lane-more (c .before .before .before .before .before .before .before .before .before .before .loop .j) (c .before .before .before .before .before .before .before .before .before .before .before .before .before .before .before .args .kc) (now (c .before .before .before .before .before .before .before .before .before .before .before .before .before .before .before .args .k)) (now (c .before .before .before .before .before .before .before .before .before .before .before .before .before .before .before .args .h)) (c .before .before .before .before .before .before .before .before .before .before .before .before .before .before .before .args .w) (c .before .before .before .before .before .before .before .before .before .before .before .before .before .before .before .args .u) (c .before .before .before .before .before .before .before .before .before .before .before .before .before .before .before .args .g) (now (c .before .before .before .before .before .before .before .before .before .before .before .before .before .before .before .args .a)) (c .before .before .before .before .before .before .before .before .before .before .loop .a) (now (c .before .before .before .before .before .before .before .before .before .before .before .before .before .before .before .args .s)) (c .before .before .before .before .before .before .before .before .before .before .loop .s) (c .before .before .put-word .last .0) (c .before .before .before .before .before .before .before .wrapping-add-u64 .result) (c .before .before .before .wrapping-add-u642 .result) (c .before .before .before .before .before .before .before .before .before .before .loop .inv .1) (omega arith) (c .before .before .before .before .before .before .before .wrapping-add-u64 .ensures ∙ ap (λ x. (x + c .before .before .before .before .before .before .before .before .before .before .before .before .before .before .before .args .g) % 2 ^ 64) (c .before .before .before .before .before .before .before .before .word-at .ensures)) (c .before .before .before .wrapping-add-u642 .ensures ∙ ap (λ n. (getD (now (c .before .before .before .before .before .before .before .before .before .before .before .before .before .before .before .args .k)) n 0 + c .before .before .before .before .before .before .before .wrapping-add-u64 .result) % 2 ^ 64) (c .before .before .before .before .before .around .ensures)) (c .before .before .put-word .ensures))
+loop-again c = (omega arith, lane-more (c .before .before .before .before .before .before .before .before .before .before .loop .j) (c .before .before .before .before .before .before .before .before .before .before .before .before .before .before .before .args .kc) (now (c .before .before .before .before .before .before .before .before .before .before .before .before .before .before .before .args .k)) (now (c .before .before .before .before .before .before .before .before .before .before .before .before .before .before .before .args .h)) (c .before .before .before .before .before .before .before .before .before .before .before .before .before .before .before .args .w) (c .before .before .before .before .before .before .before .before .before .before .before .before .before .before .before .args .u) (c .before .before .before .before .before .before .before .before .before .before .before .before .before .before .before .args .g) (now (c .before .before .before .before .before .before .before .before .before .before .before .before .before .before .before .args .a)) (c .before .before .before .before .before .before .before .before .before .before .loop .a) (now (c .before .before .before .before .before .before .before .before .before .before .before .before .before .before .before .args .s)) (c .before .before .before .before .before .before .before .before .before .before .loop .s) (c .before .before .put-word .last .0) (c .before .before .before .before .before .before .before .added .result) (c .before .before .before .added2 .result) (c .before .before .before .before .before .before .before .before .before .before .loop .inv .1) (omega arith) (c .before .before .before .before .before .before .before .added .ensures ∙ ap (λ x. (x + c .before .before .before .before .before .before .before .before .before .before .before .before .before .before .before .args .g) % 2 ^ 64) (c .before .before .before .before .before .before .before .before .word-at .ensures)) (c .before .before .before .added2 .ensures ∙ ap (λ n. (getD (now (c .before .before .before .before .before .before .before .before .before .before .before .before .before .before .before .args .k)) n 0 + c .before .before .before .before .before .before .before .added .result) % 2 ^ 64) (c .before .before .before .before .before .around .ensures .0)) (c .before .before .put-word .ensures))
 
--- src/lib.rt:51:1
+-- src/lib.rt:58:1
 same-length : tie.Need-same-length Inv-loop μ-loop
 same-length c = lane-long (c .before .loop .j) (c .before .before .before .before .before .before .args .kc) (now (c .before .before .before .before .before .before .args .k)) (now (c .before .before .before .before .before .before .args .h)) (c .before .before .before .before .before .before .args .w) (c .before .before .before .before .before .before .args .u) (c .before .before .before .before .before .before .args .g) (now (c .before .before .before .before .before .before .args .a)) (c .before .loop .a) (now (c .before .before .before .before .before .before .args .s)) (c .before .loop .s) (c .before .loop .inv .1)
 
--- src/lib.rt:51:1
+-- src/lib.rt:58:1
 same-length-2 : tie.Need-same-length-2 Inv-loop μ-loop
 same-length-2 c = c .before .loop .inv .1 .addends .long
 
--- src/lib.rt:51:1
+-- src/lib.rt:58:1
 returns : tie.Need-returns Inv-loop μ-loop
 returns c = subst (λ m. Lane m (c .before .before .before .before .before .before .args .kc) (now (c .before .before .before .before .before .before .args .k)) (now (c .before .before .before .before .before .before .args .h)) (c .before .before .before .before .before .before .args .w) (c .before .before .before .before .before .before .args .u) (c .before .before .before .before .before .before .args .g) (now (c .before .before .before .before .before .before .args .a)) (c .before .loop .a) (now (c .before .before .before .before .before .before .args .s)) (c .before .loop .s)) (omega arith) (c .before .loop .inv .1)
 
@@ -107,16 +106,16 @@ lane-spec =
     μ-loop
     loop-holds
     word-at-requires
-    wrapping-add-u64-requires
+    added-requires
     add-a
     mul-a
     slice-write-a
     add-put-word
     add-around
     around-requires
-    mul-wrapping-add-u64
-    shared-slice-read-wrapping-add-u64
-    wrapping-add-u64-requires-2
+    mul-added
+    shared-slice-read-added
+    added-requires-2
     put-word-requires
     add-j
     loop-less
