@@ -5,3 +5,4 @@ pub mod Rounds
 pub mod Lanes
 pub mod Loops
 pub mod Schedule
+pub mod Filled

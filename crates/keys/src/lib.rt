@@ -10,7 +10,7 @@ ghost use Rattle.kalyna.specs.Keys.{helper, evenKey, oddKey};
 ghost use Rattle.blocks.specs.Blocks.{Width, keysOf};
 ghost use Rattle.key_laws.specs.Stores.{Stored, Spread, Laned, Lanes, Lane};
 ghost use Rattle.key_laws.specs.Turns.{Sized, laneTurn, oddWord};
-ghost use Rattle.key_laws.specs.Schedule.{scheduleOf};
+ghost use Rattle.key_laws.specs.Schedule.{scheduleOf, columnsFrom};
 
 // 6.5.1: the helper key, as a block. The second half of the key stands kc - c columns on.
 fn helper_key(t: &[u8; 8192], k: &[u64], c: usize, kc: usize) -> [u16; 32]
@@ -33,6 +33,23 @@ fn added(x: u64, y: u64) -> u64
     ensures { λ r. ⌜ r ≡ (x + y) % 2 ^ 64 ⌝ }
 {
     std::num::wrapping_add_u64(x, y)
+}
+
+// 6.5.1: the helper key's columns, and zeros up to eight: what the round keys start from, for whoever wants to see it.
+pub fn helper_columns(t: &[u8; 8192], key: &[u8], c: usize, kc: usize) -> [u64; 8]
+    requires { ⌜ (now t ≡ sealTable) × Sized c kc × (length (now key) ≡ 8 * kc) ⌝ }
+    ensures { λ w. ⌜ w ≡ columnsFrom c (helper c kc (columnsOf kc (now (key .entry)))) ⌝ }
+{
+    let mut k = [0u64; 8];
+    loads::load(&mut k, key, kc);
+    let h = helper_key(t, &k[..kc], c, kc);
+    let mut o = [0u64; 8];
+    let mut j: usize = 0;
+    while j < c {
+        o[j] = words::word_at(&h, j);
+        j += 1;
+    }
+    o
 }
 
 // The remainder by a width.
