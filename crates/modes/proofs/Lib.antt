@@ -5,3 +5,5 @@ pub mod Chain
 pub mod Fill
 pub mod Mac
 pub mod Counters
+pub mod Suites
+pub mod Checks
