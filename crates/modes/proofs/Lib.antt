@@ -7,3 +7,4 @@ pub mod Mac
 pub mod Counters
 pub mod Suites
 pub mod Checks
+pub mod Cell
