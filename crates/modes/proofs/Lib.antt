@@ -8,3 +8,4 @@ pub mod Counters
 pub mod Suites
 pub mod Checks
 pub mod Cell
+pub mod Values
