@@ -9,3 +9,4 @@ pub mod Suites
 pub mod Checks
 pub mod Cell
 pub mod Values
+pub mod Numbers
