@@ -10,3 +10,4 @@ pub mod Checks
 pub mod Cell
 pub mod Values
 pub mod Numbers
+pub mod Tags
