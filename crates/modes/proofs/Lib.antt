@@ -11,3 +11,4 @@ pub mod Cell
 pub mod Values
 pub mod Numbers
 pub mod Tags
+pub mod Edges
