@@ -12,3 +12,4 @@ pub mod Values
 pub mod Numbers
 pub mod Tags
 pub mod Edges
+pub mod Steps
