@@ -90,148 +90,154 @@ module _ (f : Call) (n : ℕ) (s : Suite) (key side text : Value) (k : suiteOf n
 
   -- 2: key length not the suite's
   pub number-2 : (cell f n key side text ≡ refused 2) ↔ (Key f s key side text → ⊥)
-  number-2 =
-      (λ e.
-      each-answer f s key side text (λ a. a ≡ refused 2 → Key f s key side text → ⊥)
-      (λ h _. h)
-      (λ _ _ e. clash 3 2 (omega arith) e)
-      (λ _ _ _ e. clash 4 2 (omega arith) e)
-      (λ _ _ _ _ e. clash 6 2 (omega arith) e)
-      (λ _ _ _ _ _ e. clash 5 2 (omega arith) e)
-      (λ _ _ _ _ _ _ e. clash 7 2 (omega arith) e)
-      (λ p e. later 2 (omega arith) p e)
-      (sym here ∙ e),
-      λ h. here
-      ∙ each-answer f s key side text (λ a. a ≡ refused 2)
-      (λ _. refl)
-      (λ a _. absurd (h a))
-      (λ a _ _. absurd (h a))
-      (λ a _ _ _. absurd (h a))
-      (λ a _ _ _ _. absurd (h a))
-      (λ a _ _ _ _ _. absurd (h a))
-      (λ p. absurd (h (p .key-fits))))
+  number-2 = (
+    λ e.
+        each-answer f s key side text (λ a. a ≡ refused 2 → Key f s key side text → ⊥)
+        (λ h _. h)
+        (λ _ _ e. clash 3 2 (omega arith) e)
+        (λ _ _ _ e. clash 4 2 (omega arith) e)
+        (λ _ _ _ _ e. clash 6 2 (omega arith) e)
+        (λ _ _ _ _ _ e. clash 5 2 (omega arith) e)
+        (λ _ _ _ _ _ _ e. clash 7 2 (omega arith) e)
+        (λ p e. later 2 (omega arith) p e)
+        (sym here ∙ e),
+    λ h. here
+        ∙ each-answer f s key side text (λ a. a ≡ refused 2)
+        (λ _. refl)
+        (λ a _. absurd (h a))
+        (λ a _ _. absurd (h a))
+        (λ a _ _ _. absurd (h a))
+        (λ a _ _ _ _. absurd (h a))
+        (λ a _ _ _ _ _. absurd (h a))
+        (λ p. absurd (h (p .key-fits))),
+  )
 
   -- 3: IV not B bytes
   pub number-3 : (cell f n key side text ≡ refused 3) ↔ (Key f s key side text × (Iv f s key side text → ⊥))
-  number-3 =
-      (λ e.
-      each-answer f s key side text (λ a. a ≡ refused 3 → Key f s key side text × (Iv f s key side text → ⊥))
-      (λ _ e. clash 2 3 (omega arith) e)
-      (λ a h _. (a, h))
-      (λ _ _ _ e. clash 4 3 (omega arith) e)
-      (λ _ _ _ _ e. clash 6 3 (omega arith) e)
-      (λ _ _ _ _ _ e. clash 5 3 (omega arith) e)
-      (λ _ _ _ _ _ _ e. clash 7 3 (omega arith) e)
-      (λ p e. later 3 (omega arith) p e)
-      (sym here ∙ e),
-      λ h. here
-      ∙ each-answer f s key side text (λ a. a ≡ refused 3)
-      (λ no. absurd (no (h .0)))
-      (λ _ _. refl)
-      (λ _ a _. absurd (h .1 a))
-      (λ _ a _ _. absurd (h .1 a))
-      (λ _ a _ _ _. absurd (h .1 a))
-      (λ _ a _ _ _ _. absurd (h .1 a))
-      (λ p. absurd (h .1 (p .iv-fits))))
+  number-3 = (
+    λ e.
+        each-answer f s key side text (λ a. a ≡ refused 3 → Key f s key side text × (Iv f s key side text → ⊥))
+        (λ _ e. clash 2 3 (omega arith) e)
+        (λ a h _. (a, h))
+        (λ _ _ _ e. clash 4 3 (omega arith) e)
+        (λ _ _ _ _ e. clash 6 3 (omega arith) e)
+        (λ _ _ _ _ _ e. clash 5 3 (omega arith) e)
+        (λ _ _ _ _ _ _ e. clash 7 3 (omega arith) e)
+        (λ p e. later 3 (omega arith) p e)
+        (sym here ∙ e),
+    λ h. here
+        ∙ each-answer f s key side text (λ a. a ≡ refused 3)
+        (λ no. absurd (no (h .0)))
+        (λ _ _. refl)
+        (λ _ a _. absurd (h .1 a))
+        (λ _ a _ _. absurd (h .1 a))
+        (λ _ a _ _ _. absurd (h .1 a))
+        (λ _ a _ _ _ _. absurd (h .1 a))
+        (λ p. absurd (h .1 (p .iv-fits))),
+  )
 
   -- 4: empty text
   pub number-4 : (cell f n key side text ≡ refused 4) ↔ (Key f s key side text × Iv f s key side text × (Some f s key side text → ⊥))
-  number-4 =
-      (λ e.
-      each-answer f s key side text (λ a. a ≡ refused 4 → Key f s key side text × Iv f s key side text × (Some f s key side text → ⊥))
-      (λ _ e. clash 2 4 (omega arith) e)
-      (λ _ _ e. clash 3 4 (omega arith) e)
-      (λ a b h _. (a, b, h))
-      (λ _ _ _ _ e. clash 6 4 (omega arith) e)
-      (λ _ _ _ _ _ e. clash 5 4 (omega arith) e)
-      (λ _ _ _ _ _ _ e. clash 7 4 (omega arith) e)
-      (λ p e. later 4 (omega arith) p e)
-      (sym here ∙ e),
-      λ h. here
-      ∙ each-answer f s key side text (λ a. a ≡ refused 4)
-      (λ no. absurd (no (h .0)))
-      (λ _ no. absurd (no (h .1)))
-      (λ _ _ _. refl)
-      (λ _ _ a _. absurd (h .2 a))
-      (λ _ _ a _ _. absurd (h .2 a))
-      (λ _ _ a _ _ _. absurd (h .2 a))
-      (λ p. absurd (h .2 (p .text-some))))
+  number-4 = (
+    λ e.
+        each-answer f s key side text (λ a. a ≡ refused 4 → Key f s key side text × Iv f s key side text × (Some f s key side text → ⊥))
+        (λ _ e. clash 2 4 (omega arith) e)
+        (λ _ _ e. clash 3 4 (omega arith) e)
+        (λ a b h _. (a, b, h))
+        (λ _ _ _ _ e. clash 6 4 (omega arith) e)
+        (λ _ _ _ _ _ e. clash 5 4 (omega arith) e)
+        (λ _ _ _ _ _ _ e. clash 7 4 (omega arith) e)
+        (λ p e. later 4 (omega arith) p e)
+        (sym here ∙ e),
+    λ h. here
+        ∙ each-answer f s key side text (λ a. a ≡ refused 4)
+        (λ no. absurd (no (h .0)))
+        (λ _ no. absurd (no (h .1)))
+        (λ _ _ _. refl)
+        (λ _ _ a _. absurd (h .2 a))
+        (λ _ _ a _ _. absurd (h .2 a))
+        (λ _ _ a _ _ _. absurd (h .2 a))
+        (λ p. absurd (h .2 (p .text-some))),
+  )
 
   -- 6: text over 1,024 bytes; of `cbp` the result
   pub number-6 : (cell f n key side text ≡ refused 6)
       ↔ (Key f s key side text × Iv f s key side text × Some f s key side text × (Short f s key side text → ⊥))
-  number-6 =
-      (λ e.
-      each-answer f s key side text
-      (λ a. a ≡ refused 6 → Key f s key side text × Iv f s key side text × Some f s key side text × (Short f s key side text → ⊥))
-      (λ _ e. clash 2 6 (omega arith) e)
-      (λ _ _ e. clash 3 6 (omega arith) e)
-      (λ _ _ _ e. clash 4 6 (omega arith) e)
-      (λ a b c h _. (a, b, c, h))
-      (λ _ _ _ _ _ e. clash 5 6 (omega arith) e)
-      (λ _ _ _ _ _ _ e. clash 7 6 (omega arith) e)
-      (λ p e. later 6 (omega arith) p e)
-      (sym here ∙ e),
-      λ h. here
-      ∙ each-answer f s key side text (λ a. a ≡ refused 6)
-      (λ no. absurd (no (h .0)))
-      (λ _ no. absurd (no (h .1)))
-      (λ _ _ no. absurd (no (h .2)))
-      (λ _ _ _ _. refl)
-      (λ _ _ _ a _. absurd (h .3 a))
-      (λ _ _ _ a _ _. absurd (h .3 a))
-      (λ p. absurd (h .3 (p .text-short))))
+  number-6 = (
+    λ e.
+        each-answer f s key side text
+        (λ a. a ≡ refused 6 → Key f s key side text × Iv f s key side text × Some f s key side text × (Short f s key side text → ⊥))
+        (λ _ e. clash 2 6 (omega arith) e)
+        (λ _ _ e. clash 3 6 (omega arith) e)
+        (λ _ _ _ e. clash 4 6 (omega arith) e)
+        (λ a b c h _. (a, b, c, h))
+        (λ _ _ _ _ _ e. clash 5 6 (omega arith) e)
+        (λ _ _ _ _ _ _ e. clash 7 6 (omega arith) e)
+        (λ p e. later 6 (omega arith) p e)
+        (sym here ∙ e),
+    λ h. here
+        ∙ each-answer f s key side text (λ a. a ≡ refused 6)
+        (λ no. absurd (no (h .0)))
+        (λ _ no. absurd (no (h .1)))
+        (λ _ _ no. absurd (no (h .2)))
+        (λ _ _ _ _. refl)
+        (λ _ _ _ a _. absurd (h .3 a))
+        (λ _ _ _ a _ _. absurd (h .3 a))
+        (λ p. absurd (h .3 (p .text-short))),
+  )
 
   -- 5: not one block, or not whole blocks
   pub number-5 : (cell f n key side text ≡ refused 5)
       ↔ (Key f s key side text × Iv f s key side text × Some f s key side text × Short f s key side text × (Whole f s key side text → ⊥))
-  number-5 =
-      (λ e.
-      each-answer f s key side text
-      (λ a. a ≡ refused 5 → Key f s key side text × Iv f s key side text × Some f s key side text × Short f s key side text × (Whole f s key side text → ⊥))
-      (λ _ e. clash 2 5 (omega arith) e)
-      (λ _ _ e. clash 3 5 (omega arith) e)
-      (λ _ _ _ e. clash 4 5 (omega arith) e)
-      (λ _ _ _ _ e. clash 6 5 (omega arith) e)
-      (λ a b c d h _. (a, b, c, d, h))
-      (λ _ _ _ _ _ _ e. clash 7 5 (omega arith) e)
-      (λ p e. later 5 (omega arith) p e)
-      (sym here ∙ e),
-      λ h. here
-      ∙ each-answer f s key side text (λ a. a ≡ refused 5)
-      (λ no. absurd (no (h .0)))
-      (λ _ no. absurd (no (h .1)))
-      (λ _ _ no. absurd (no (h .2)))
-      (λ _ _ _ no. absurd (no (h .3)))
-      (λ _ _ _ _ _. refl)
-      (λ _ _ _ _ a _. absurd (h .4 a))
-      (λ p. absurd (h .4 (p .text-whole))))
+  number-5 = (
+    λ e.
+        each-answer f s key side text
+        (λ a. a ≡ refused 5 → Key f s key side text × Iv f s key side text × Some f s key side text × Short f s key side text × (Whole f s key side text → ⊥))
+        (λ _ e. clash 2 5 (omega arith) e)
+        (λ _ _ e. clash 3 5 (omega arith) e)
+        (λ _ _ _ e. clash 4 5 (omega arith) e)
+        (λ _ _ _ _ e. clash 6 5 (omega arith) e)
+        (λ a b c d h _. (a, b, c, d, h))
+        (λ _ _ _ _ _ _ e. clash 7 5 (omega arith) e)
+        (λ p e. later 5 (omega arith) p e)
+        (sym here ∙ e),
+    λ h. here
+        ∙ each-answer f s key side text (λ a. a ≡ refused 5)
+        (λ no. absurd (no (h .0)))
+        (λ _ no. absurd (no (h .1)))
+        (λ _ _ no. absurd (no (h .2)))
+        (λ _ _ _ no. absurd (no (h .3)))
+        (λ _ _ _ _ _. refl)
+        (λ _ _ _ _ a _. absurd (h .4 a))
+        (λ p. absurd (h .4 (p .text-whole))),
+  )
 
   -- 7: tag not 8..B bytes
   pub number-7 : (cell f n key side text ≡ refused 7)
       ↔ (Key f s key side text × Iv f s key side text × Some f s key side text × Short f s key side text × Whole f s key side text × (Tag f s key side text → ⊥))
-  number-7 =
-      (λ e.
-      each-answer f s key side text
-      (λ a. a ≡ refused 7
-      → Key f s key side text × Iv f s key side text × Some f s key side text × Short f s key side text × Whole f s key side text × (Tag f s key side text → ⊥))
-      (λ _ e. clash 2 7 (omega arith) e)
-      (λ _ _ e. clash 3 7 (omega arith) e)
-      (λ _ _ _ e. clash 4 7 (omega arith) e)
-      (λ _ _ _ _ e. clash 6 7 (omega arith) e)
-      (λ _ _ _ _ _ e. clash 5 7 (omega arith) e)
-      (λ a b c d w h _. (a, b, c, d, w, h))
-      (λ p e. later 7 (omega arith) p e)
-      (sym here ∙ e),
-      λ h. here
-      ∙ each-answer f s key side text (λ a. a ≡ refused 7)
-      (λ no. absurd (no (h .0)))
-      (λ _ no. absurd (no (h .1)))
-      (λ _ _ no. absurd (no (h .2)))
-      (λ _ _ _ no. absurd (no (h .3)))
-      (λ _ _ _ _ no. absurd (no (h .4)))
-      (λ _ _ _ _ _ _. refl)
-      (λ p. absurd (h .5 (p .tag-fits))))
+  number-7 = (
+    λ e.
+        each-answer f s key side text
+        (λ a. a ≡ refused 7
+        → Key f s key side text × Iv f s key side text × Some f s key side text × Short f s key side text × Whole f s key side text × (Tag f s key side text → ⊥))
+        (λ _ e. clash 2 7 (omega arith) e)
+        (λ _ _ e. clash 3 7 (omega arith) e)
+        (λ _ _ _ e. clash 4 7 (omega arith) e)
+        (λ _ _ _ _ e. clash 6 7 (omega arith) e)
+        (λ _ _ _ _ _ e. clash 5 7 (omega arith) e)
+        (λ a b c d w h _. (a, b, c, d, w, h))
+        (λ p e. later 7 (omega arith) p e)
+        (sym here ∙ e),
+    λ h. here
+        ∙ each-answer f s key side text (λ a. a ≡ refused 7)
+        (λ no. absurd (no (h .0)))
+        (λ _ no. absurd (no (h .1)))
+        (λ _ _ no. absurd (no (h .2)))
+        (λ _ _ _ no. absurd (no (h .3)))
+        (λ _ _ _ _ no. absurd (no (h .4)))
+        (λ _ _ _ _ _ _. refl)
+        (λ p. absurd (h .5 (p .tag-fits))),
+  )
 
   -- past the checks that precede them, with what the call makes
   past-refused : (x : ℕ) → (x ≡ 2 → ⊥) → (x ≡ 3 → ⊥) → (x ≡ 4 → ⊥) → (x ≡ 6 → ⊥) → (x ≡ 5 → ⊥) → (x ≡ 7 → ⊥) → cell f n key side text ≡ refused x
@@ -252,9 +258,12 @@ module _ (f : Call) (n : ℕ) (s : Suite) (key side text : Value) (k : suiteOf n
   number-8 bs bt = (λ e. only e (past-refused 8 (omega arith) (omega arith) (omega arith) (omega arith) (omega arith) (omega arith) e), given)
     where
       only : cell f n key side text ≡ refused 8 → Past f s key side text × (f ≡ Call.uncbp) × (_≡_ {A = ℕ} 8 8) → Past f s key side text × (f ≡ Call.uncbp) × NoText n key side text
-      only e r =
-          (r .0, r .1, λ t b _ _ sealed.
-          not-both 8 t (sym e ∙ ap (λ g. cell g n key side text) (r .1) ∙ uncbp-back n key side t text bs b sealed))
+      only e r = (
+        r .0,
+        r .1,
+        λ t b _ _ sealed.
+            not-both 8 t (sym e ∙ ap (λ g. cell g n key side text) (r .1) ∙ uncbp-back n key side t text bs b sealed),
+      )
 
       given : Past f s key side text × (f ≡ Call.uncbp) × NoText n key side text → cell f n key side text ≡ refused 8
       given r = here ∙ passed f s key side text (r .0) ∙ go (Makes f s key side text) refl
@@ -293,6 +302,20 @@ module _ (f : Call) (n : ℕ) (s : Suite) (key side text : Value) (k : suiteOf n
 
           short : length text ≤ 1024
           short = unfold shapeOf in past .text-short
+
+  -- 0: past the checks a call is done, `uncbp` if some text seals to those bytes
+  pub done : OfBytes side → OfBytes text → Past f s key side text → (f ≡ Call.uncbp → NoText n key side text → ⊥) → (v : Value) × (cell f n key side text ≡ value v)
+  done bs bt p some = go (Makes f s key side text) refl
+    where
+      go : (a : Answer) → Makes f s key side text ≡ a → (v : Value) × (cell f n key side text ≡ value v)
+      go (value v) e = (v, here ∙ passed f s key side text p ∙ e)
+      go (refused x) e = absurd (some (r .1) (r .2))
+        where
+          eight : x ≡ 8
+          eight = made-refused n s key side text x k f p e .1
+
+          r : Past f s key side text × (f ≡ Call.uncbp) × NoText n key side text
+          r = number-8 bs bt .0 (here ∙ passed f s key side text p ∙ e ∙ ap refused eight)
 
   -- no other number is given
   pub no-other : (x : ℕ) → cell f n key side text ≡ refused x → (x ≡ 2 → ⊥) → (x ≡ 3 → ⊥) → (x ≡ 4 → ⊥) → (x ≡ 6 → ⊥) → (x ≡ 5 → ⊥) → (x ≡ 7 → ⊥) → x ≡ 8

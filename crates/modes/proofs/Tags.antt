@@ -87,22 +87,25 @@ module _ (n : ℕ) (key tag side text h : Value) (right : cell Call.mac n key si
 
   -- 01 exactly for 8 to B leading bytes of the right tag
   pub chk-yes : (cell Call.chk n key tag text ≡ value (1 ∷ [])) ↔ ((8 ≤ length tag) × (length tag ≤ length h) × (tag ≡ take (length tag) h))
-  chk-yes =
-      (λ e. (said _ e .least, said _ e .most, chk-one (blockBytes s) (sealing s key) tag text (said _ e .makes) ∙ ap (take (length tag)) tag-is),
-      λ r. says (1 ∷ []) (r .0, r .1) (chk-right (blockBytes s) (sealing s key) tag text (r .2 ∙ ap (take (length tag)) (sym tag-is))))
+  chk-yes = (
+    λ e. (said _ e .least, said _ e .most, chk-one (blockBytes s) (sealing s key) tag text (said _ e .makes) ∙ ap (take (length tag)) tag-is),
+    λ r. says (1 ∷ []) (r .0, r .1) (chk-right (blockBytes s) (sealing s key) tag text (r .2 ∙ ap (take (length tag)) (sym tag-is))),
+  )
 
   -- 00 for every other tag of 8 to B bytes
   pub chk-no : (cell Call.chk n key tag text ≡ value (0 ∷ [])) ↔ ((8 ≤ length tag) × (length tag ≤ length h) × (tag ≡ take (length tag) h → ⊥))
-  chk-no =
-      (λ e. (said _ e .least, said _ e .most, λ q. chk-zero (blockBytes s) (sealing s key) tag text (said _ e .makes) (q ∙ ap (take (length tag)) (sym tag-is))),
-      λ r. says (0 ∷ []) (r .0, r .1) (chk-wrong (blockBytes s) (sealing s key) tag text (λ q. r .2 (q ∙ ap (take (length tag)) tag-is))))
+  chk-no = (
+    λ e. (said _ e .least, said _ e .most, λ q. chk-zero (blockBytes s) (sealing s key) tag text (said _ e .makes) (q ∙ ap (take (length tag)) (sym tag-is))),
+    λ r. says (0 ∷ []) (r .0, r .1) (chk-wrong (blockBytes s) (sealing s key) tag text (λ q. r .2 (q ∙ ap (take (length tag)) tag-is))),
+  )
 
   -- 7 for all else
   pub chk-bad : (cell Call.chk n key tag text ≡ refused 7) ↔ ((8 ≤ length tag) × (length tag ≤ length h) → ⊥)
   unfolding sideOf shapeOf
-  chk-bad =
-      (λ e r. number-7 Call.chk n s key tag text (a .known) .0 e .5 (r .0, subst (λ m. length tag ≤ m) tag-long (r .1)),
-      λ no. number-7 Call.chk n s key tag text (a .known) .1 (a .past .key-fits, tt, a .past .text-some, a .past .text-short, tt, λ r. no (r .0, subst (λ m. length tag ≤ m) (sym tag-long) (r .1))))
+  chk-bad = (
+    λ e r. number-7 Call.chk n s key tag text (a .known) .0 e .5 (r .0, subst (λ m. length tag ≤ m) tag-long (r .1)),
+    λ no. number-7 Call.chk n s key tag text (a .known) .1 (a .past .key-fits, tt, a .past .text-some, a .past .text-short, tt, λ r. no (r .0, subst (λ m. length tag ≤ m) (sym tag-long) (r .1))),
+  )
 
 -- ---- the counter: document 003 lets only the low half of the block count; the cell is the same unless that half is within 64 of its top
 pub ctr-agrees : (n : ℕ) (s : Suite) (key iv text v : Value) → suiteOf n ≡ Known s → cell Call.ctr n key iv text ≡ value v

@@ -3,16 +3,15 @@ use mathlib.Core.Path.{_≡_, refl, sym, ap, ap₂, _∙_, subst}
 use mathlib.Core.List.{List, [], _∷_}
 use Prim.Native.Nat.{ℕ, zero, suc, _+_, _*_, _/_, _%_, _<_, _≤_}
 use native.Mathlib.Numerals.{add-one}
-use native.Mathlib.Nat.{zero-add, mod-lt, div-lt-iff-lt-mul, not-suc-le-zero, le-of-suc-le-suc}
+use native.Mathlib.Nat.{zero-add, div-lt-iff-lt-mul, not-suc-le-zero, le-of-suc-le-suc}
 use native.Mathlib.Omega.{arith}
 use lib.ListN.{getD, length}
 use Rattle.common.specs.Places.{tab}
 use Rattle.common.proofs.Places.{tab-ext}
 use Rattle.field.specs.Xor.{xor}
-use Rattle.modes.specs.Blocks.{blockAt, xorBlock, before}
-use Rattle.modes.specs.Stream.{addGamma, ofbGamma, cfbGamma}
-use Rattle.modes.specs.Chain.{chained, cbc, uncbc}
-use Rattle.modes.proofs.Blocks.{getD-xor}
+use Rattle.modes.specs.Blocks.{blockAt, xorBlock}
+use Rattle.modes.specs.Stream.{addGamma, ofbGamma}
+use Rattle.modes.specs.Chain.{chained, cbc}
 
 -- f 0, f 1 .. f (n - 1)
 unfoldable pub listed : ℕ → (ℕ → List ℕ) → List (List ℕ)
@@ -60,26 +59,9 @@ module _ (m B : ℕ) (pos : 0 < B) (text : List ℕ) (few : length text ≤ m * 
   cbc-shared E iv =
       tab-ext (length text) _ _ (λ n l. ap (λ g. getD g (n % B) 0) (sym (getD-listed m (λ i. chained B E iv text (i + 1)) (n / B) (block-of n l))))
 
-  pub uncbc-shared : (D : List ℕ → List ℕ) (iv : List ℕ)
-      → uncbc B D iv text ≡ joined B (length text) (listed m (λ i. xorBlock B (before B iv text i) (D (blockAt B text i))))
-  unfolding uncbc joined
-  uncbc-shared D iv =
-      tab-ext (length text) _ _ (λ n l.
-      sym (ap (λ g. getD g (n % B) 0) (getD-listed m (λ i. xorBlock B (before B iv text i) (D (blockAt B text i))) (n / B) (block-of n l))
-      ∙ getD-xor B (n % B) (before B iv text (n / B)) (D (blockAt B text (n / B))) (mod-lt n pos)))
-
   pub ofb-shared : (E : List ℕ → List ℕ) (iv : List ℕ) (place : ℕ → ℕ) → addGamma B (ofbGamma E iv) place text ≡ added B (grown (λ i g. E g) (E iv) 0 m) place text
   unfolding ofbGamma
   ofb-shared E iv place = gamma-shared (ofbGamma E iv) place ∙ ap (λ gs. added B gs place text) (listed-grown (λ i g. E g) (ofbGamma E iv) m 0 (λ j. refl))
-
-  pub cfb-shared : (E : List ℕ → List ℕ) (iv : List ℕ) (place : ℕ → ℕ)
-      → addGamma B (cfbGamma B E iv text) place text ≡ added B (grown (λ i g. E (xorBlock B (blockAt B text i) g)) (E iv) 0 m) place text
-  unfolding cfbGamma
-  cfb-shared E iv place =
-      gamma-shared (cfbGamma B E iv text) place
-      ∙ ap (λ gs. added B gs place text)
-      (listed-grown (λ i g. E (xorBlock B (blockAt B text i) g)) (cfbGamma B E iv text) m 0
-      (λ j. ap (λ k. E (xorBlock B (blockAt B text k) (cfbGamma B E iv text j))) (sym (zero-add j))))
 
   pub chain-shared : (E : List ℕ → List ℕ) (iv : List ℕ)
       → cbc B E iv text ≡ joined B (length text) (grown (λ i c. E (xorBlock B c (blockAt B text (suc i)))) (E (xorBlock B iv (blockAt B text 0))) 0 m)
