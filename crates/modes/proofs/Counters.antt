@@ -1,5 +1,6 @@
 -- The counters of one CTR cell are never equal, and the two readings of the counter agree but near the top of the low half.
 use mathlib.Core.Bool.{Bool, true, false}
+use mathlib.Core.Logic.{_↔_}
 use mathlib.Core.Path.{_≡_, refl, sym, ap, ap₂, _∙_, subst}
 use mathlib.Core.List.{List, [], _∷_}
 use Prim.Native.Nat.{ℕ, zero, suc, _+_, _-_, _*_, _/_, _%_, _^_, _<_, _≤_}
@@ -7,7 +8,7 @@ use native.Mathlib.Nat.{mod-lt, suc-mul, div-add-mod', mul-le-mul-right, div-lt-
 use native.Mathlib.Numerals.{add-one}
 use native.Mathlib.Omega.{arith}
 use native.Mathlib.Decide.{decLe, decLt}
-use borrow.Author.Tests.{eqb-true, ne-eqb}
+use borrow.Author.Tests.{eqb-true, eqb-false, ne-eqb}
 use lib.Arith.{digits-mod, digits-lt}
 use lib.Pow.{pow-add}
 use lib.Dec.{eqb}
@@ -76,6 +77,78 @@ pub never-twice : (B n : ℕ) (s : List ℕ) → 0 < B → n ≤ 64 * B → Twic
 unfolding counter
 never-twice B n s p h t =
     apart (256 ^ B) (numberOf B s) (t .one) (t .other) (t .less) (omega (arith, t .last, t .first, blocks-few B n p h, many B p)) (t .equal)
+
+-- the test finds two equal counters exactly where there are two
+pub record Pair (m : ℕ) (f : ℕ → ℕ) : Type 0 where
+  pub one : ℕ
+  pub other : ℕ
+  pub less : one < other
+  pub last : other < m
+  pub equal : f one ≡ f other
+
+among-found : (x n : ℕ) (f : ℕ → ℕ) → among x (tab n f) ≡ true → (i : ℕ) × (i < n) × (x ≡ f i)
+unfolding among tab pick
+among-found x zero f e = let z : _≡_ {A = ℕ} 0 1 = cc in absurd (omega arith)
+among-found x (suc n) f e = go (eqb x (f 0)) refl (among-found x n (λ i. f (suc i))) e
+  where
+    go : (t : Bool) → eqb x (f 0) ≡ t → (among x (tab n (λ i. f (suc i))) ≡ true → (i : ℕ) × (i < n) × (x ≡ f (suc i)))
+        → pick t true (among x (tab n (λ i. f (suc i)))) ≡ true → (i : ℕ) × (i < suc n) × (x ≡ f i)
+    go true et ih e = (0, omega arith, eqb-true x (f 0) et)
+    go false et ih e = (suc (ih e .0), omega (arith, ih e .1), ih e .2)
+
+repeated-found : (m : ℕ) (f : ℕ → ℕ) → repeated (tab m f) ≡ true → Pair m f
+unfolding repeated tab pick
+repeated-found zero f e = let z : _≡_ {A = ℕ} 0 1 = cc in absurd (omega arith)
+repeated-found (suc m) f e = go (among (f 0) (tab m (λ i. f (suc i)))) refl (repeated-found m (λ i. f (suc i))) e
+  where
+    go : (t : Bool) → among (f 0) (tab m (λ i. f (suc i))) ≡ t → (repeated (tab m (λ i. f (suc i))) ≡ true → Pair m (λ i. f (suc i)))
+        → pick t true (repeated (tab m (λ i. f (suc i)))) ≡ true → Pair (suc m) f
+    go true et ih e = from (among-found (f 0) m (λ i. f (suc i)) et)
+      where
+        from : (i : ℕ) × (i < m) × (f 0 ≡ f (suc i)) → Pair (suc m) f
+        from r = record { one = 0; other = suc (r .0); less = omega arith; last = omega (arith, r .1); equal = r .2 }
+    go false et ih e = up (ih e)
+      where
+        up : Pair m (λ i. f (suc i)) → Pair (suc m) f
+        up r = record { one = suc (r .one); other = suc (r .other); less = omega (arith, r .less); last = omega (arith, r .last); equal = r .equal }
+
+among-none : (x n : ℕ) (f : ℕ → ℕ) → among x (tab n f) ≡ false → (i : ℕ) → i < n → x ≡ f i → ⊥
+unfolding among tab pick
+among-none x zero f e i l q = not-suc-le-zero l
+among-none x (suc n) f e i l q = go (eqb x (f 0)) refl (among-none x n (λ i. f (suc i))) e i l q
+  where
+    go : (t : Bool) → eqb x (f 0) ≡ t → (among x (tab n (λ i. f (suc i))) ≡ false → (i : ℕ) → i < n → x ≡ f (suc i) → ⊥)
+        → pick t true (among x (tab n (λ i. f (suc i)))) ≡ false → (i : ℕ) → i < suc n → x ≡ f i → ⊥
+    go true et ih e i l q = let z : _≡_ {A = ℕ} 0 1 = cc in omega arith
+    go false et ih e zero l q = eqb-false x (f 0) et q
+    go false et ih e (suc i) l q = ih e i (omega arith) q
+
+repeated-none : (m : ℕ) (f : ℕ → ℕ) → repeated (tab m f) ≡ false → (i j : ℕ) → i < j → j < m → f i ≡ f j → ⊥
+unfolding repeated tab pick
+repeated-none zero f e i j l h q = not-suc-le-zero h
+repeated-none (suc m) f e i j l h q = go (among (f 0) (tab m (λ i. f (suc i)))) refl (repeated-none m (λ i. f (suc i))) e i j l h q
+  where
+    go : (t : Bool) → among (f 0) (tab m (λ i. f (suc i))) ≡ t → (repeated (tab m (λ i. f (suc i))) ≡ false → (i j : ℕ) → i < j → j < m → f (suc i) ≡ f (suc j) → ⊥)
+        → pick t true (repeated (tab m (λ i. f (suc i)))) ≡ false → (i j : ℕ) → i < j → j < suc m → f i ≡ f j → ⊥
+    go true et ih e i j l h q = let z : _≡_ {A = ℕ} 0 1 = cc in omega arith
+    go false et ih e i zero l h q = not-suc-le-zero l
+    go false et ih e zero (suc j) l h q = among-none (f 0) m (λ i. f (suc i)) et j (omega arith) q
+    go false et ih e (suc i) (suc j) l h q = ih e i j (omega arith) (omega arith) q
+
+pub wraps-twice : (B n : ℕ) (s : List ℕ) → (wraps B s n ≡ true) ↔ Twice B s (blocksIn B n)
+unfolding wraps
+wraps-twice B n s = (λ e. from (repeated-found (blocksIn B n) (λ i. counter B s (i + 1)) e), λ t. given t (wraps B s n) refl)
+  where
+    from : Pair (blocksIn B n) (λ i. counter B s (i + 1)) → Twice B s (blocksIn B n)
+    from r =
+        record { one = r .one + 1; other = r .other + 1; first = omega arith; less = omega (arith, r .less); last = omega (arith, r .last); equal = r .equal }
+
+    given : Twice B s (blocksIn B n) → (t : Bool) → wraps B s n ≡ t → wraps B s n ≡ true
+    given t true e = e
+    given t false e =
+        absurd (repeated-none (blocksIn B n) (λ i. counter B s (i + 1)) e (t .one - 1) (t .other - 1) (omega (arith, t .first, t .less)) (omega (arith, t .first, t .less, t .last))
+        (ap (counter B s) (let z : t .one - 1 + 1 ≡ t .one = omega (arith, t .first) in z) ∙ t .equal
+        ∙ ap (counter B s) (let z : t .other ≡ t .other - 1 + 1 = omega (arith, t .first, t .less) in z)))
 
 -- ---- the two readings of the counter: document 003 lets only the low half of the block count, of h bytes
 

@@ -1,2 +1,3 @@
 -- Worked examples as closed equations.
+pub mod Sharing
 pub mod Examples
