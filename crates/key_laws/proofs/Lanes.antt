@@ -1,9 +1,9 @@
 -- The loops over the lanes of the even keys, and over the odd keys.
-use mathlib.Core.Path.{_≡_, refl, sym, ap, ap₂, _∙_, subst}
-use mathlib.Core.Logic.{_⊎_, ⊎-elim}
+use mathlib.Core.Path.{_≡_, sym, ap, ap₂, _∙_, subst}
+use mathlib.Core.Logic.{_⊎_}
 use mathlib.Core.List.{List}
-use Prim.Native.Nat.{ℕ, zero, suc, _+_, _-_, _*_, _/_, _%_, _^_, _<_, _≤_}
-use native.Mathlib.Nat.{not-suc-le-zero, mod-lt, add-mod-mod, add-mod, mul-le-mul-left, mul-suc, pow-suc, mul-zero, zero-add, mul-assoc}
+use Prim.Native.Nat.{ℕ, _+_, _-_, _*_, _/_, _%_, _^_, _<_, _≤_}
+use native.Mathlib.Nat.{not-suc-le-zero, mod-lt, add-mod-mod, add-mod, mul-le-mul-left, mul-suc, pow-suc, mul-zero, zero-add}
 use native.Mathlib.Numerals.{add-one}
 use native.Mathlib.Decide.{decLt}
 use native.Mathlib.Omega.{arith}
@@ -12,7 +12,7 @@ use Rattle.common.specs.Places.{tab}
 use Rattle.common.proofs.Places.{getD-tab, tab-ext, tab-self}
 use Rattle.field.specs.Xor.{xor}
 use Rattle.field.proofs.XorLaws as X
-use Rattle.words.specs.Words.{wordAt, putWord, putWords, blockAt}
+use Rattle.words.specs.Words.{wordAt, putWords, blockAt}
 use Rattle.words.proofs.Walks.{length-puts, puts-other, puts-at, block-ext}
 use Rattle.kalyna.specs.State.{State}
 use Rattle.kalyna.specs.Round.{addKey, xorKey}

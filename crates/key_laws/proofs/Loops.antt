@@ -1,10 +1,9 @@
 -- One turn of each loop.
 use mathlib.Core.Path.{_≡_, refl, sym, ap, ap₂, _∙_, subst}
-use mathlib.Core.Logic.{_⊎_, ⊎-elim}
+use mathlib.Core.Logic.{_⊎_}
 use mathlib.Core.List.{List, _++_}
-use Prim.Native.Nat.{ℕ, zero, suc, _+_, _-_, _*_, _/_, _%_, _^_, _<_, _≤_}
-use native.Mathlib.Nat.{mul-le-mul, mul-le-mul-left, mul-suc, mul-zero, zero-add, mod-lt, add-zero}
-use native.Mathlib.Numerals.{add-one}
+use Prim.Native.Nat.{ℕ, suc, _+_, _-_, _*_, _/_, _%_, _^_, _<_, _≤_}
+use native.Mathlib.Nat.{mul-le-mul, mul-le-mul-left, mul-suc, zero-add, mod-lt}
 use native.Mathlib.Omega.{arith}
 use lib.ListN.{getD, length, set, take, drop}
 use lib.Seq.{take-at}
@@ -13,8 +12,7 @@ use Rattle.kalyna.specs.State.{columnsOf}
 use Rattle.field.specs.Xor.{xor}
 use Rattle.words.specs.Words.{wordAt, putWord, putWords}
 use Rattle.words.proofs.Walks.{length-puts, puts-more, puts-next}
-use Rattle.blocks.specs.Blocks.{Width, keysOf}
-use Rattle.key_laws.specs.Stores.{Stored, Spread, Lane}
+use Rattle.key_laws.specs.Stores.{Stored, Lane}
 use Rattle.key_laws.specs.Turns.{oddWord}
 use Rattle.key_laws.proofs.Stores.{stored-none, stored-more}
 

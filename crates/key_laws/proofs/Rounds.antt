@@ -1,28 +1,25 @@
 -- The rounds of the helper key and of the even keys.
-use mathlib.Core.Path.{_≡_, refl, sym, ap, ap₂, _∙_, subst}
-use mathlib.Core.Logic.{_⊎_, ⊎-elim}
-use mathlib.Core.Bool.{Bool, true, false}
+use mathlib.Core.Path.{_≡_, sym, ap, ap₂, _∙_}
 use mathlib.Core.List.{List}
-use Prim.Native.Nat.{ℕ, zero, suc, _+_, _-_, _*_, _/_, _%_, _^_, _<_, _≤_}
+use Prim.Native.Nat.{ℕ, _+_, _-_, _*_, _%_, _^_, _<_, _≤_}
 use native.Mathlib.Decide.{ℕ-discrete}
 use native.Mathlib.Nat.{zero-add, mul-zero}
 use native.Mathlib.Omega.{arith}
 use lib.Dec.{eqb}
-use lib.ListN.{getD, length, take, drop, replicate, getD-replicate}
+use lib.ListN.{getD, replicate, getD-replicate}
 use lib.Seq.{getD-take, getD-drop}
 use borrow.Author.Tests.{eq-eqb, ne-eqb}
 use Rattle.common.specs.Choice.{pick}
-use Rattle.common.specs.Places.{tab}
 use Rattle.common.proofs.Places.{getD-tab, tab-ext, tab-self}
 use Rattle.field.specs.Xor.{xor}
 use Rattle.field.proofs.XorLaws.{zero-r}
-use Rattle.words.specs.Words.{wordAt, putWord, putWords, blockAt, Walked}
+use Rattle.words.specs.Words.{wordAt, putWord, blockAt, Walked}
 use Rattle.words.proofs.Laws.{word-same, word-other}
 use Rattle.words.proofs.Walks.{walk-as}
 use Rattle.kalyna.specs.State.{State}
 use Rattle.kalyna.specs.Round.{addKey, xorKey, ssm}
 use Rattle.kalyna.specs.Block.{moves}
-use Rattle.kalyna.specs.Keys.{startNumber, start, firstHalf, secondHalf, helperFrom, helper, constant, evenInput, evenFrom, evenKey}
+use Rattle.kalyna.specs.Keys.{startNumber, start, firstHalf, secondHalf, helperFrom, helper, evenInput, evenFrom, evenKey}
 use Rattle.kalyna.proofs.Undo.{ssm-state}
 use Rattle.rounds.specs.Rounds.{keyAt}
 use Rattle.blocks.specs.Blocks.{keysOf}

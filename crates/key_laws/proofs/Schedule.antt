@@ -1,26 +1,21 @@
 -- Even and odd keys in their places are the schedule, and the schedule has every round key in its place.
-use mathlib.Core.Path.{_≡_, refl, sym, ap, ap₂, _∙_, subst}
-use mathlib.Core.Logic.{_⊎_, ⊎-elim}
-use mathlib.Core.Bool.{Bool, true, false}
+use mathlib.Core.Path.{_≡_, sym, ap, ap₂, _∙_, subst}
 use mathlib.Core.List.{List}
-use Prim.Native.Nat.{ℕ, zero, suc, _+_, _-_, _*_, _/_, _%_, _^_, _<_, _≤_}
-use native.Mathlib.Nat.{mod-lt, div-add-mod, mul-comm, mul-suc, mul-le-mul-left, mul-le-mul-right, le-trans}
+use Prim.Native.Nat.{ℕ, suc, _+_, _-_, _*_, _/_, _%_, _<_, _≤_}
+use native.Mathlib.Nat.{mod-lt, div-add-mod, mul-comm, mul-suc, mul-le-mul-left, mul-le-mul-right}
 use native.Mathlib.Numerals.{add-one}
 use native.Mathlib.Decide.{decLt, ℕ-discrete}
 use native.Mathlib.Omega.{arith}
-use lib.Dec.{eqb, ltb}
+use lib.Dec.{ltb}
 use lib.Arith.{digits-div, digits-mod}
-use lib.ListN.{getD, length, replicate, getD-replicate}
-use lib.Seq.{ext-getD}
+use lib.ListN.{getD, getD-replicate}
 use borrow.Author.Tests.{eq-eqb, ne-eqb, lt-ltb, le-ltb}
 use Rattle.common.specs.Choice.{pick}
-use Rattle.common.specs.Places.{tab}
-use Rattle.common.proofs.Places.{getD-tab, length-tab, tab-ext, tab-self}
-use Rattle.kalyna.specs.State.{State}
+use Rattle.common.proofs.Places.{getD-tab, tab-ext, tab-self}
 use Rattle.kalyna.specs.Keys.{helper, evenKey, oddKey, roundKeyWith, roundKey}
 use Rattle.kalyna.proofs.Bytes.{keys-good}
 use Rattle.rounds.specs.Rounds.{keyAt}
-use Rattle.blocks.specs.Blocks.{Width, keysOf}
+use Rattle.blocks.specs.Blocks.{keysOf}
 use Rattle.key_laws.specs.Stores.{Spread}
 use Rattle.key_laws.specs.Turns.{Sized}
 use Rattle.key_laws.specs.Schedule.{scheduleOf}

@@ -1,22 +1,22 @@
 -- The turns as the code does them are those of the definitions.
-use mathlib.Core.Path.{_≡_, refl, sym, ap, ap₂, _∙_, subst}
+use mathlib.Core.Path.{_≡_, sym, ap, ap₂, _∙_, subst}
 use mathlib.Core.Logic.{_⊎_, ⊎-elim}
 use mathlib.Core.Bool.{Bool, true, false}
 use mathlib.Core.List.{List}
 use Prim.Native.Nat.{ℕ, zero, suc, _+_, _-_, _*_, _/_, _%_, _^_, _<_, _≤_}
-use native.Mathlib.Nat.{mod-lt, mod-eq-of-lt, pow-suc, div-div-eq-div-mul, div-lt-iff-lt-mul, add-comm, mul-assoc, add-zero, zero-add, mul-one, mod-one, suc-add, add-assoc, mul-le-mul-right}
-use native.Mathlib.Decide.{decLt, ℕ-discrete}
+use native.Mathlib.Nat.{mod-lt, mod-eq-of-lt, pow-suc, div-div-eq-div-mul, div-lt-iff-lt-mul, add-comm, mul-assoc, add-zero, zero-add, mul-one, mod-one, suc-add, mul-le-mul-right}
+use native.Mathlib.Decide.{ℕ-discrete}
 use native.Mathlib.Omega.{arith}
 use lib.Dec.{eqb}
 use lib.Arith.{mod-mul, digits-lt}
 use lib.Pow.{pow-add}
 use lib.Bits.{bitAnd, and-mask}
-use lib.ListN.{getD, length, take, drop}
+use lib.ListN.{getD, take, drop}
 use lib.Seq.{getD-take, getD-drop}
 use borrow.Author.Tests.{eq-eqb, ne-eqb}
 use Rattle.common.specs.Choice.{pick}
 use Rattle.common.specs.Places.{tab}
-use Rattle.common.proofs.Places.{getD-tab, tab-ext}
+use Rattle.common.proofs.Places.{getD-tab}
 use Rattle.field.specs.Column.{byteOf, pack}
 use Rattle.field.proofs.PackLaws.{pack-ext, byteOf-zero, byteOf-suc}
 use Rattle.kalyna.specs.State.{State, columnsOf, bytesOf}

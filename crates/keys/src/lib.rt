@@ -3,7 +3,7 @@ ghost use mathlib.Core.Path.{_≡_};
 ghost use Prim.Native.Nat.{_+_, _*_, _/_, _%_, _^_, _≤_, _<_};
 ghost use lib.ListN.{getD, length};
 ghost use Rattle.lookup.specs.Table.{sealTable};
-ghost use Rattle.words.specs.Words.{wordAt, putWords, blockAt};
+ghost use Rattle.words.specs.Words.{wordAt, blockAt};
 ghost use Rattle.kalyna.specs.State.{columnsOf};
 ghost use Rattle.kalyna.specs.Round.{addKey, xorKey};
 ghost use Rattle.kalyna.specs.Keys.{helper, evenKey, oddKey};

@@ -1,4 +1,3 @@
-use borrow.Author.Needs.{needs}
 use native.Mathlib.Omega.{arith}
 use Rattle.key_laws.proofs.Turns.{mask, mask-lt, width-pos}
 use Rattle.keys.proofs.around.Statement.{statement}

@@ -1,10 +1,8 @@
-use mathlib.Core.Path.{_≡_, refl, sym, ap, ap₂, subst, _∙_}
-use Prim.Native.Nat.{ℕ, _+_, _-_, _*_, _/_, _%_, _^_, _≤_, _<_}
+use mathlib.Core.Path.{ap, _∙_}
+use Prim.Native.Nat.{_-_}
 use native.Mathlib.Omega.{arith}
-use native.Mathlib.Nat.{mul-zero}
-use lib.ListN.{getD, length}
+use lib.ListN.{length}
 use denote.Ref.{now}
-use Rattle.words.specs.Words.{blockAt}
 use Rattle.words.proofs.Laws.{length-put}
 use Rattle.key_laws.proofs.Turns.{width-le, halves-le}
 use Rattle.key_laws.proofs.Rounds.{noughts, start-is, helper-is}

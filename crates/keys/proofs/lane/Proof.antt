@@ -1,8 +1,8 @@
 use borrow.Author.Needs.{needs}
-use mathlib.Core.Path.{_≡_, refl, sym, ap, ap₂, subst, _∙_}
-use Prim.Native.Nat.{ℕ, _+_, _-_, _*_, _/_, _%_, _^_, _≤_, _<_}
+use mathlib.Core.Path.{ap, subst, _∙_}
+use Prim.Native.Nat.{_+_, _-_, _%_, _^_, _≤_}
 use native.Mathlib.Omega.{arith}
-use lib.ListN.{getD, length}
+use lib.ListN.{getD}
 use denote.Ref.{now}
 use Rattle.key_laws.specs.Stores.{Lane}
 use Rattle.key_laws.proofs.Turns.{width-le}

@@ -1,5 +1,4 @@
-use borrow.Author.Needs.{needs}
-use mathlib.Core.Path.{_≡_, sym}
+use mathlib.Core.Path.{sym}
 use native.Mathlib.Omega.{arith}
 use Rattle.key_laws.proofs.Turns.{same-turn, other-turn, digit-fits, turn-fits, turn-le}
 use Rattle.keys.proofs.turn_of.Statement.{statement}

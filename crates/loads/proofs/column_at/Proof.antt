@@ -1,5 +1,5 @@
 use Rattle.field.proofs.PackLaws.{eight-bytes}
-use mathlib.Core.Path.{_≡_, refl, sym, ap, _∙_}
+use mathlib.Core.Path.{sym, ap, _∙_}
 use Prim.Native.Nat.{_+_}
 use native.Mathlib.Nat.{add-zero}
 use lib.ListN.{getD}
