@@ -1,0 +1,1 @@
+// The demands joined for the real cipher calls. No code.
