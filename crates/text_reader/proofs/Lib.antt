@@ -1,0 +1,6 @@
+-- Laws of the reader of texts.
+pub mod Put
+pub mod Steps
+pub mod Literals
+pub mod Zeros
+pub mod Calls
