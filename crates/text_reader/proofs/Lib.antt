@@ -4,3 +4,4 @@ pub mod Steps
 pub mod Literals
 pub mod Zeros
 pub mod Calls
+pub mod Answers
