@@ -1,0 +1,2 @@
+-- Laws of the scan.
+pub mod Laws
