@@ -51,7 +51,7 @@ abbrev expression-below : ℕ → In 2 expression-kinds.ps
 expression-below t =
     and 2 expression-kinds.ps (falls 2 expression-kinds.ps _<_ μ-expression t) expression.Pre
 
--- src/lib.rt:134:22
+-- src/lib.rt:143:22
 arguments-due-at-requires : (t : ℕ) → arguments-lts.Need-due-at-requires (
   due-at-reads.Asked,
   due-at-reads.Learnt,
@@ -62,7 +62,7 @@ arguments-due-at-requires : (t : ℕ) → arguments-lts.Need-due-at-requires (
 ) (arguments-at t) arguments.Post
 arguments-due-at-requires t c κs = search needs
 
--- src/lib.rt:135:26
+-- src/lib.rt:144:26
 arguments-enum-known-w : (t : ℕ) → arguments-lts.Need-enum-known-w (
   due-at-reads.Asked,
   due-at-reads.Learnt,
@@ -73,7 +73,7 @@ arguments-enum-known-w : (t : ℕ) → arguments-lts.Need-enum-known-w (
 ) (arguments-at t) arguments.Post
 arguments-enum-known-w t c = search needs
 
--- src/lib.rt:136:39
+-- src/lib.rt:145:39
 arguments-enum-told : (t : ℕ) → arguments-lts.Need-enum-told (
   due-at-reads.Asked,
   due-at-reads.Learnt,
@@ -84,7 +84,7 @@ arguments-enum-told : (t : ℕ) → arguments-lts.Need-enum-told (
 ) (arguments-at t) arguments.Post
 arguments-enum-told t c = search needs
 
--- src/lib.rt:136:39
+-- src/lib.rt:145:39
 arguments-add-t19 : (t : ℕ) → arguments-lts.Need-add-t19 (
   due-at-reads.Asked,
   due-at-reads.Learnt,
@@ -95,7 +95,7 @@ arguments-add-t19 : (t : ℕ) → arguments-lts.Need-add-t19 (
 ) (arguments-at t) arguments.Post
 arguments-add-t19 t c = let d = due-is (c .before .before .before .before .before .before .args .s .now) 41 41 (c .before .before .before .before .before .before .args .p) (tokens.due-stood (dueAt (c .before .before .before .before .before .before .args .s .now) 41 41 (c .before .before .before .before .before .before .args .p)) (sym (c .before .before .due-at .ensures) ∙ c .enum-told .given .1)) in let i = d .inside in let M = c .before .before .before .before .before .before .pre .0 in let R = c .before .before .before .before .before .before .pre .1 in omega arith
 
--- src/lib.rt:134:9
+-- src/lib.rt:143:9
 arguments-returns : (t : ℕ) → arguments-lts.Need-returns (
   due-at-reads.Asked,
   due-at-reads.Learnt,
@@ -104,9 +104,9 @@ arguments-returns : (t : ℕ) → arguments-lts.Need-returns (
   arguments-below t,
   arguments.Post,
 ) (arguments-at t) arguments.Post
-arguments-returns t c = steps.reads-bad encodes (c .before .before .before .before .before .before .before .args .o) (argsAt (exprAt (c .before .before .before .before .before .before .before .args .d) (c .before .before .before .before .before .before .before .args .s .now)) (c .before .before .before .before .before .before .before .args .s .now) (c .before .before .before .before .before .before .before .args .left) (c .before .before .before .before .before .before .before .args .c) (c .before .before .before .before .before .before .before .args .p) (c .before .before .before .before .before .before .before .args .n)) 20 (c .before .w .given .0 .0) (c .before .before .before .before .before .before .before .args .out .now) (c .before .before .before .before .before .before .before .args .out .now) (calls.args-last (exprAt (c .before .before .before .before .before .before .before .args .d) (c .before .before .before .before .before .before .before .args .s .now)) (c .before .before .before .before .before .before .before .args .s .now) (c .before .before .before .before .before .before .before .args .left) (c .before .before .before .before .before .before .before .args .c) (c .before .before .before .before .before .before .before .args .p) (c .before .before .before .before .before .before .before .args .n) (c .before .before .before .before .if1 .taken) ∙ ways.args-open (exprAt (c .before .before .before .before .before .before .before .args .d) (c .before .before .before .before .before .before .before .args .s .now)) (c .before .before .before .before .before .before .before .args .s .now) (c .before .before .before .before .before .before .before .args .c) (c .before .before .before .before .before .before .before .args .p) (c .before .before .before .before .before .before .before .args .n) (c .before .w .given .0 .0) (tokens.due-missed (dueAt (c .before .before .before .before .before .before .before .args .s .now) 41 41 (c .before .before .before .before .before .before .before .args .p)) (c .before .w .given .0 .0) (sym (c .before .before .before .due-at .ensures) ∙ c .before .w .given .1)))
+arguments-returns t c = steps.reads-bad encodes (c .before .before .before .before .before .before .before .args .o) (argsAt (exprAt (c .before .before .before .before .before .before .before .args .d) (c .before .before .before .before .before .before .before .args .s .now)) (c .before .before .before .before .before .before .before .args .s .now) (c .before .before .before .before .before .before .before .args .left) (c .before .before .before .before .before .before .before .args .c) (c .before .before .before .before .before .before .before .args .p) (c .before .before .before .before .before .before .before .args .n)) 20 (c .before .w .given .0 .0) (c .before .before .before .before .before .before .before .args .out .now) (c .before .before .before .before .before .before .before .args .out .now) (calls.args-last (exprAt (c .before .before .before .before .before .before .before .args .d) (c .before .before .before .before .before .before .before .args .s .now)) (c .before .before .before .before .before .before .before .args .s .now) (c .before .before .before .before .before .before .before .args .left) (c .before .before .before .before .before .before .before .args .c) (c .before .before .before .before .before .before .before .args .p) (c .before .before .before .before .before .before .before .args .n) (omega (arith, c .before .before .before .before .if1 .taken)) ∙ ways.args-open (exprAt (c .before .before .before .before .before .before .before .args .d) (c .before .before .before .before .before .before .before .args .s .now)) (c .before .before .before .before .before .before .before .args .s .now) (c .before .before .before .before .before .before .before .args .c) (c .before .before .before .before .before .before .before .args .p) (c .before .before .before .before .before .before .before .args .n) (c .before .w .given .0 .0) (tokens.due-missed (dueAt (c .before .before .before .before .before .before .before .args .s .now) 41 41 (c .before .before .before .before .before .before .before .args .p)) (c .before .w .given .0 .0) (sym (c .before .before .before .due-at .ensures) ∙ c .before .w .given .1)))
 
--- src/lib.rt:134:9
+-- src/lib.rt:143:9
 arguments-returns-2 : (t : ℕ) → arguments-lts.Need-returns-2 (
   due-at-reads.Asked,
   due-at-reads.Learnt,
@@ -115,9 +115,9 @@ arguments-returns-2 : (t : ℕ) → arguments-lts.Need-returns-2 (
   arguments-below t,
   arguments.Post,
 ) (arguments-at t) arguments.Post
-arguments-returns-2 t c = steps.args-none (c .before .before .before .before .before .before .args .o) (argsAt (exprAt (c .before .before .before .before .before .before .args .d) (c .before .before .before .before .before .before .args .s .now)) (c .before .before .before .before .before .before .args .s .now) (c .before .before .before .before .before .before .args .left) (c .before .before .before .before .before .before .args .c) (c .before .before .before .before .before .before .args .p) (c .before .before .before .before .before .before .args .n)) ((c .before .before .before .before .before .before .args .p) + 1) (c .before .before .before .before .before .before .args .n) (c .before .before .before .before .before .before .args .out .now) (calls.args-last (exprAt (c .before .before .before .before .before .before .args .d) (c .before .before .before .before .before .before .args .s .now)) (c .before .before .before .before .before .before .args .s .now) (c .before .before .before .before .before .before .args .left) (c .before .before .before .before .before .before .args .c) (c .before .before .before .before .before .before .args .p) (c .before .before .before .before .before .before .args .n) (c .before .before .before .if1 .taken) ∙ ways.args-closed (exprAt (c .before .before .before .before .before .before .args .d) (c .before .before .before .before .before .before .args .s .now)) (c .before .before .before .before .before .before .args .s .now) (c .before .before .before .before .before .before .args .c) (c .before .before .before .before .before .before .args .p) (c .before .before .before .before .before .before .args .n) (tokens.due-stood (dueAt (c .before .before .before .before .before .before .args .s .now) 41 41 (c .before .before .before .before .before .before .args .p)) (sym (c .before .before .due-at .ensures) ∙ c .enum-told .given .1)))
+arguments-returns-2 t c = steps.args-none (c .before .before .before .before .before .before .args .o) (argsAt (exprAt (c .before .before .before .before .before .before .args .d) (c .before .before .before .before .before .before .args .s .now)) (c .before .before .before .before .before .before .args .s .now) (c .before .before .before .before .before .before .args .left) (c .before .before .before .before .before .before .args .c) (c .before .before .before .before .before .before .args .p) (c .before .before .before .before .before .before .args .n)) ((c .before .before .before .before .before .before .args .p) + 1) (c .before .before .before .before .before .before .args .n) (c .before .before .before .before .before .before .args .out .now) (calls.args-last (exprAt (c .before .before .before .before .before .before .args .d) (c .before .before .before .before .before .before .args .s .now)) (c .before .before .before .before .before .before .args .s .now) (c .before .before .before .before .before .before .args .left) (c .before .before .before .before .before .before .args .c) (c .before .before .before .before .before .before .args .p) (c .before .before .before .before .before .before .args .n) (omega (arith, c .before .before .before .if1 .taken)) ∙ ways.args-closed (exprAt (c .before .before .before .before .before .before .args .d) (c .before .before .before .before .before .before .args .s .now)) (c .before .before .before .before .before .before .args .s .now) (c .before .before .before .before .before .before .args .c) (c .before .before .before .before .before .before .args .p) (c .before .before .before .before .before .before .args .n) (tokens.due-stood (dueAt (c .before .before .before .before .before .before .args .s .now) 41 41 (c .before .before .before .before .before .before .args .p)) (sym (c .before .before .due-at .ensures) ∙ c .enum-told .given .1)))
 
--- src/lib.rt:139:11
+-- src/lib.rt:148:11
 arguments-due-at-requires-2 : (t : ℕ) → arguments-lts.Need-due-at-requires-2 (
   due-at-reads.Asked,
   due-at-reads.Learnt,
@@ -128,7 +128,7 @@ arguments-due-at-requires-2 : (t : ℕ) → arguments-lts.Need-due-at-requires-2
 ) (arguments-at t) arguments.Post
 arguments-due-at-requires-2 t c κs = search needs
 
--- src/lib.rt:140:22
+-- src/lib.rt:149:22
 arguments-enum-known-w-2 : (t : ℕ) → arguments-lts.Need-enum-known-w-2 (
   due-at-reads.Asked,
   due-at-reads.Learnt,
@@ -139,7 +139,7 @@ arguments-enum-known-w-2 : (t : ℕ) → arguments-lts.Need-enum-known-w-2 (
 ) (arguments-at t) arguments.Post
 arguments-enum-known-w-2 t c = search needs
 
--- src/lib.rt:141:44
+-- src/lib.rt:150:44
 arguments-enum-told-2 : (t : ℕ) → arguments-lts.Need-enum-told-2 (
   due-at-reads.Asked,
   due-at-reads.Learnt,
@@ -150,7 +150,7 @@ arguments-enum-told-2 : (t : ℕ) → arguments-lts.Need-enum-told-2 (
 ) (arguments-at t) arguments.Post
 arguments-enum-told-2 t c = search needs
 
--- src/lib.rt:141:44
+-- src/lib.rt:150:44
 arguments-add-expression : (t : ℕ) → arguments-lts.Need-add-expression (
   due-at-reads.Asked,
   due-at-reads.Learnt,
@@ -161,7 +161,7 @@ arguments-add-expression : (t : ℕ) → arguments-lts.Need-add-expression (
 ) (arguments-at t) arguments.Post
 arguments-add-expression t c = let d = due-is (c .before .before .before .before .before .before .args .s .now) (c .before .before .before .before .before .before .args .c) (c .before .before .before .before .before .before .args .c) (c .before .before .before .before .before .before .args .p) (tokens.due-stood (dueAt (c .before .before .before .before .before .before .args .s .now) (c .before .before .before .before .before .before .args .c) (c .before .before .before .before .before .before .args .c) (c .before .before .before .before .before .before .args .p)) (sym (c .before .before .due-at2 .ensures) ∙ c .enum-told2 .given .1)) in let i = d .inside in let M = c .before .before .before .before .before .before .pre .0 in let R = c .before .before .before .before .before .before .pre .1 in omega arith
 
--- src/lib.rt:141:30
+-- src/lib.rt:150:30
 arguments-expression-requires : (t : ℕ) → arguments-lts.Need-expression-requires (
   due-at-reads.Asked,
   due-at-reads.Learnt,
@@ -172,7 +172,7 @@ arguments-expression-requires : (t : ℕ) → arguments-lts.Need-expression-requ
 ) (arguments-at t) arguments.Post
 arguments-expression-requires t c κs = let d = due-is (c .before .before .before .before .before .before .before .args .s .now) (c .before .before .before .before .before .before .before .args .c) (c .before .before .before .before .before .before .before .args .c) (c .before .before .before .before .before .before .before .args .p) (tokens.due-stood (dueAt (c .before .before .before .before .before .before .before .args .s .now) (c .before .before .before .before .before .before .before .args .c) (c .before .before .before .before .before .before .before .args .c) (c .before .before .before .before .before .before .before .args .p)) (sym (c .before .before .before .due-at2 .ensures) ∙ c .before .enum-told2 .given .1)) in let i = d .inside in let M = c .before .before .before .before .before .before .before .pre .0 in let R = c .before .before .before .before .before .before .before .pre .1 in omega arith
 
--- src/lib.rt:142:22
+-- src/lib.rt:151:22
 arguments-enum-known-i : (t : ℕ) → arguments-lts.Need-enum-known-i (
   due-at-reads.Asked,
   due-at-reads.Learnt,
@@ -183,7 +183,7 @@ arguments-enum-known-i : (t : ℕ) → arguments-lts.Need-enum-known-i (
 ) (arguments-at t) arguments.Post
 arguments-enum-known-i t c = search needs
 
--- src/lib.rt:143:24
+-- src/lib.rt:152:24
 arguments-enum-known-q : (t : ℕ) → arguments-lts.Need-enum-known-q (
   due-at-reads.Asked,
   due-at-reads.Learnt,
@@ -194,7 +194,7 @@ arguments-enum-known-q : (t : ℕ) → arguments-lts.Need-enum-known-q (
 ) (arguments-at t) arguments.Post
 arguments-enum-known-q t c = search needs
 
--- src/lib.rt:143:64
+-- src/lib.rt:152:64
 arguments-sub-arguments : (t : ℕ) → arguments-lts.Need-sub-arguments (
   due-at-reads.Asked,
   due-at-reads.Learnt,
@@ -205,7 +205,7 @@ arguments-sub-arguments : (t : ℕ) → arguments-lts.Need-sub-arguments (
 ) (arguments-at t) arguments.Post
 arguments-sub-arguments t c = omega (arith, c .before .before .before .before .before .before .before .before .before .before .if1 .left)
 
--- src/lib.rt:143:36
+-- src/lib.rt:152:36
 arguments-arguments-requires : (t : ℕ) → arguments-lts.Need-arguments-requires (
   due-at-reads.Asked,
   due-at-reads.Learnt,
@@ -284,7 +284,7 @@ expression-returns : (t : ℕ) → expression-lts.Need-returns (
   put-head-reads.Asked,
   put-head-reads.Learnt,
 ) (expression-at t) expression.Post
-expression-returns t c = steps.reads-bad encode (c .before .before .before .args .o) (exprAt (c .before .before .before .args .d) (c .before .before .before .args .s .now) (c .before .before .before .args .p) (c .before .before .before .args .n)) 22 (c .before .before .before .args .p) (c .before .before .before .args .out .now) (c .before .before .before .args .out .now) (ways.expr-deep (c .before .before .before .args .d) (c .before .before .before .args .s .now) (c .before .before .before .args .p) (c .before .before .before .args .n) (c .if1 .taken))
+expression-returns t c = steps.reads-bad encode (c .before .before .before .args .o) (exprAt (c .before .before .before .args .d) (c .before .before .before .args .s .now) (c .before .before .before .args .p) (c .before .before .before .args .n)) 22 (c .before .before .before .args .p) (c .before .before .before .args .out .now) (c .before .before .before .args .out .now) (ways.expr-deep (c .before .before .before .args .d) (c .before .before .before .args .s .now) (c .before .before .before .args .p) (c .before .before .before .args .n) (omega (arith, c .if1 .taken)))
 
 -- src/lib.rt:98:9
 expression-returns-2 : (t : ℕ) → expression-lts.Need-returns-2 (
@@ -299,7 +299,7 @@ expression-returns-2 : (t : ℕ) → expression-lts.Need-returns-2 (
   put-head-reads.Asked,
   put-head-reads.Learnt,
 ) (expression-at t) expression.Post
-expression-returns-2 t c = steps.reads-bad encode (c .before .before .before .before .args .o) (exprAt (c .before .before .before .before .args .d) (c .before .before .before .before .args .s .now) (c .before .before .before .before .args .p) (c .before .before .before .before .args .n)) 23 (c .before .before .before .before .args .p) (c .before .before .before .before .args .out .now) (c .before .before .before .before .args .out .now) (ways.expr-many (c .before .before .before .before .args .d) (c .before .before .before .before .args .s .now) (c .before .before .before .before .args .p) (c .before .before .before .before .args .n) (omega (arith, c .before .if1 .left)) (c .if2 .taken))
+expression-returns-2 t c = steps.reads-bad encode (c .before .before .before .before .args .o) (exprAt (c .before .before .before .before .args .d) (c .before .before .before .before .args .s .now) (c .before .before .before .before .args .p) (c .before .before .before .before .args .n)) 23 (c .before .before .before .before .args .p) (c .before .before .before .before .args .out .now) (c .before .before .before .before .args .out .now) (ways.expr-many (c .before .before .before .before .args .d) (c .before .before .before .before .args .s .now) (c .before .before .before .before .args .p) (c .before .before .before .before .args .n) (omega (arith, c .before .if1 .left)) (omega (arith, c .if2 .taken)))
 
 -- src/lib.rt:101:9
 expression-returns-3 : (t : ℕ) → expression-lts.Need-returns-3 (
@@ -314,7 +314,7 @@ expression-returns-3 : (t : ℕ) → expression-lts.Need-returns-3 (
   put-head-reads.Asked,
   put-head-reads.Learnt,
 ) (expression-at t) expression.Post
-expression-returns-3 t c = steps.reads-bad encode (c .before .before .before .before .before .args .o) (exprAt (c .before .before .before .before .before .args .d) (c .before .before .before .before .before .args .s .now) (c .before .before .before .before .before .args .p) (c .before .before .before .before .before .args .n)) 20 (length (c .before .before .before .before .before .args .s .now)) (c .before .before .before .before .before .args .out .now) (c .before .before .before .before .before .args .out .now) (ways.expr-end (c .before .before .before .before .before .args .d) (c .before .before .before .before .before .args .s .now) (c .before .before .before .before .before .args .p) (c .before .before .before .before .before .args .n) (omega (arith, c .before .before .if1 .left)) (c .before .if2 .left) (c .if3 .taken))
+expression-returns-3 t c = steps.reads-bad encode (c .before .before .before .before .before .args .o) (exprAt (c .before .before .before .before .before .args .d) (c .before .before .before .before .before .args .s .now) (c .before .before .before .before .before .args .p) (c .before .before .before .before .before .args .n)) 20 (length (c .before .before .before .before .before .args .s .now)) (c .before .before .before .before .before .args .out .now) (c .before .before .before .before .before .args .out .now) (ways.expr-end (c .before .before .before .before .before .args .d) (c .before .before .before .before .before .args .s .now) (c .before .before .before .before .before .args .p) (c .before .before .before .before .before .args .n) (omega (arith, c .before .before .if1 .left)) (omega (arith, c .before .if2 .left)) (c .if3 .taken))
 
 -- src/lib.rt:103:13
 expression-shared-slice-read-b : (t : ℕ) → expression-lts.Need-shared-slice-read-b (
@@ -374,7 +374,7 @@ expression-returns-4 : (t : ℕ) → expression-lts.Need-returns-4 (
   put-head-reads.Asked,
   put-head-reads.Learnt,
 ) (expression-at t) expression.Post
-expression-returns-4 t c = steps.reads-as (c .before .before .before .before .before .before .before .before .before .before .before .args .o) _ _ (c .before .before .literal-at .result) (c .before .before .before .before .before .before .before .before .before .before .before .args .out .now) (c .before .before .literal-at .last .1 .1 .1 .0) (ap (inRecords encode) (calls.expr-quote (c .before .before .before .before .before .before .before .before .before .before .before .args .d) (c .before .before .before .before .before .before .before .before .before .before .before .args .s .now) (c .before .before .before .before .before .before .before .before .before .before .before .args .p) (c .before .before .before .before .before .before .before .before .before .before .before .args .n) (omega (arith, c .before .before .before .before .before .before .before .before .if1 .left)) (c .before .before .before .before .before .before .before .if2 .left) (c .before .before .before .before .before .before .if3 .left) (c .before .before .before .before .if4 .taken))) (c .before .before .literal-at .ensures)
+expression-returns-4 t c = steps.reads-as (c .before .before .before .before .before .before .before .before .before .before .before .args .o) _ _ (c .before .before .literal-at .result) (c .before .before .before .before .before .before .before .before .before .before .before .args .out .now) (c .before .before .literal-at .last .1 .1 .1 .0) (ap (inRecords encode) (calls.expr-quote (c .before .before .before .before .before .before .before .before .before .before .before .args .d) (c .before .before .before .before .before .before .before .before .before .before .before .args .s .now) (c .before .before .before .before .before .before .before .before .before .before .before .args .p) (c .before .before .before .before .before .before .before .before .before .before .before .args .n) (omega (arith, c .before .before .before .before .before .before .before .before .if1 .left)) (omega (arith, c .before .before .before .before .before .before .before .if2 .left)) (c .before .before .before .before .before .before .if3 .left) (c .before .before .before .before .if4 .taken))) (c .before .before .literal-at .ensures)
 
 -- src/lib.rt:108:9
 expression-name-at-requires : (t : ℕ) → expression-lts.Need-name-at-requires (
@@ -419,7 +419,7 @@ expression-returns-5 : (t : ℕ) → expression-lts.Need-returns-5 (
   put-head-reads.Asked,
   put-head-reads.Learnt,
 ) (expression-at t) expression.Post
-expression-returns-5 t c = steps.reads-as (c .before .before .before .before .before .before .before .before .before .before .before .before .args .o) _ _ (c .before .before .name-at .result) (c .before .before .before .before .before .before .before .before .before .before .before .before .args .out .now) (c .before .before .name-at .last .1 .1 .1 .1 .1 .0) (calls.expr-hash (c .before .before .before .before .before .before .before .before .before .before .before .before .args .d) (c .before .before .before .before .before .before .before .before .before .before .before .before .args .s .now) (c .before .before .before .before .before .before .before .before .before .before .before .before .args .p) (c .before .before .before .before .before .before .before .before .before .before .before .before .args .n) (omega (arith, c .before .before .before .before .before .before .before .before .before .if1 .left)) (c .before .before .before .before .before .before .before .before .if2 .left) (c .before .before .before .before .before .before .before .if3 .left) (c .before .before .before .before .before .if4 .left) (c .before .before .before .before .if5 .taken)) (c .before .before .name-at .ensures)
+expression-returns-5 t c = steps.reads-as (c .before .before .before .before .before .before .before .before .before .before .before .before .args .o) _ _ (c .before .before .name-at .result) (c .before .before .before .before .before .before .before .before .before .before .before .before .args .out .now) (c .before .before .name-at .last .1 .1 .1 .1 .1 .0) (calls.expr-hash (c .before .before .before .before .before .before .before .before .before .before .before .before .args .d) (c .before .before .before .before .before .before .before .before .before .before .before .before .args .s .now) (c .before .before .before .before .before .before .before .before .before .before .before .before .args .p) (c .before .before .before .before .before .before .before .before .before .before .before .before .args .n) (omega (arith, c .before .before .before .before .before .before .before .before .before .if1 .left)) (omega (arith, c .before .before .before .before .before .before .before .before .if2 .left)) (c .before .before .before .before .before .before .before .if3 .left) (c .before .before .before .before .before .if4 .left) (c .before .before .before .before .if5 .taken)) (c .before .before .name-at .ensures)
 
 -- src/lib.rt:111:9
 expression-name-at-requires-2 : (t : ℕ) → expression-lts.Need-name-at-requires-2 (
@@ -464,7 +464,7 @@ expression-returns-6 : (t : ℕ) → expression-lts.Need-returns-6 (
   put-head-reads.Asked,
   put-head-reads.Learnt,
 ) (expression-at t) expression.Post
-expression-returns-6 t c = steps.reads-as (c .before .before .before .before .before .before .before .before .before .before .before .before .before .args .o) _ _ (c .before .before .name-at2 .result) (c .before .before .before .before .before .before .before .before .before .before .before .before .before .args .out .now) (c .before .before .name-at2 .last .1 .1 .1 .1 .1 .0) (calls.expr-dollar (c .before .before .before .before .before .before .before .before .before .before .before .before .before .args .d) (c .before .before .before .before .before .before .before .before .before .before .before .before .before .args .s .now) (c .before .before .before .before .before .before .before .before .before .before .before .before .before .args .p) (c .before .before .before .before .before .before .before .before .before .before .before .before .before .args .n) (omega (arith, c .before .before .before .before .before .before .before .before .before .before .if1 .left)) (c .before .before .before .before .before .before .before .before .before .if2 .left) (c .before .before .before .before .before .before .before .before .if3 .left) (c .before .before .before .before .before .before .if4 .left) (c .before .before .before .before .before .if5 .left) (c .before .before .before .before .if6 .taken)) (c .before .before .name-at2 .ensures)
+expression-returns-6 t c = steps.reads-as (c .before .before .before .before .before .before .before .before .before .before .before .before .before .args .o) _ _ (c .before .before .name-at2 .result) (c .before .before .before .before .before .before .before .before .before .before .before .before .before .args .out .now) (c .before .before .name-at2 .last .1 .1 .1 .1 .1 .0) (calls.expr-dollar (c .before .before .before .before .before .before .before .before .before .before .before .before .before .args .d) (c .before .before .before .before .before .before .before .before .before .before .before .before .before .args .s .now) (c .before .before .before .before .before .before .before .before .before .before .before .before .before .args .p) (c .before .before .before .before .before .before .before .before .before .before .before .before .before .args .n) (omega (arith, c .before .before .before .before .before .before .before .before .before .before .if1 .left)) (omega (arith, c .before .before .before .before .before .before .before .before .before .if2 .left)) (c .before .before .before .before .before .before .before .before .if3 .left) (c .before .before .before .before .before .before .if4 .left) (c .before .before .before .before .before .if5 .left) (c .before .before .before .before .if6 .taken)) (c .before .before .name-at2 .ensures)
 
 -- src/lib.rt:114:9
 expression-name-at-requires-3 : (t : ℕ) → expression-lts.Need-name-at-requires-3 (
@@ -509,7 +509,7 @@ expression-returns-7 : (t : ℕ) → expression-lts.Need-returns-7 (
   put-head-reads.Asked,
   put-head-reads.Learnt,
 ) (expression-at t) expression.Post
-expression-returns-7 t c = steps.reads-as (c .before .before .before .before .before .before .before .before .before .before .before .before .before .before .args .o) _ _ (c .before .before .name-at3 .result) (c .before .before .before .before .before .before .before .before .before .before .before .before .before .before .args .out .now) (c .before .before .name-at3 .last .1 .1 .1 .1 .1 .0) (calls.expr-sign (c .before .before .before .before .before .before .before .before .before .before .before .before .before .before .args .d) (c .before .before .before .before .before .before .before .before .before .before .before .before .before .before .args .s .now) (c .before .before .before .before .before .before .before .before .before .before .before .before .before .before .args .p) (c .before .before .before .before .before .before .before .before .before .before .before .before .before .before .args .n) (omega (arith, c .before .before .before .before .before .before .before .before .before .before .before .if1 .left)) (c .before .before .before .before .before .before .before .before .before .before .if2 .left) (c .before .before .before .before .before .before .before .before .before .if3 .left) (c .before .before .before .before .before .before .before .if4 .left) (c .before .before .before .before .before .before .if5 .left) (c .before .before .before .before .before .if6 .left) (c .before .before .before .before .if7 .taken)) (c .before .before .name-at3 .ensures)
+expression-returns-7 t c = steps.reads-as (c .before .before .before .before .before .before .before .before .before .before .before .before .before .before .args .o) _ _ (c .before .before .name-at3 .result) (c .before .before .before .before .before .before .before .before .before .before .before .before .before .before .args .out .now) (c .before .before .name-at3 .last .1 .1 .1 .1 .1 .0) (calls.expr-sign (c .before .before .before .before .before .before .before .before .before .before .before .before .before .before .args .d) (c .before .before .before .before .before .before .before .before .before .before .before .before .before .before .args .s .now) (c .before .before .before .before .before .before .before .before .before .before .before .before .before .before .args .p) (c .before .before .before .before .before .before .before .before .before .before .before .before .before .before .args .n) (omega (arith, c .before .before .before .before .before .before .before .before .before .before .before .if1 .left)) (omega (arith, c .before .before .before .before .before .before .before .before .before .before .if2 .left)) (c .before .before .before .before .before .before .before .before .before .if3 .left) (c .before .before .before .before .before .before .before .if4 .left) (c .before .before .before .before .before .before .if5 .left) (c .before .before .before .before .before .if6 .left) (c .before .before .before .before .if7 .taken)) (c .before .before .name-at3 .ensures)
 
 -- src/lib.rt:116:11
 expression-head-at-requires : (t : ℕ) → expression-lts.Need-head-at-requires (
@@ -704,7 +704,7 @@ expression-returns-8 : (t : ℕ) → expression-lts.Need-returns-8 (
   put-head-reads.Asked,
   put-head-reads.Learnt,
 ) (expression-at t) expression.Post
-expression-returns-8 t c = steps.reads-bad encode (c .before .before .before .before .before .before .before .before .before .before .before .before .before .before .args .o) (exprAt (c .before .before .before .before .before .before .before .before .before .before .before .before .before .before .args .d) (c .before .before .before .before .before .before .before .before .before .before .before .before .before .before .args .s .now) (c .before .before .before .before .before .before .before .before .before .before .before .before .before .before .args .p) (c .before .before .before .before .before .before .before .before .before .before .before .before .before .before .args .n)) 20 (c .before .w .given .0 .0) (c .before .before .before .before .before .before .before .before .before .before .before .before .before .before .args .out .now) (c .before .before .before .before .before .before .before .before .before .before .before .before .before .before .args .out .now) (calls.call-not (c .before .before .before .before .before .before .before .before .before .before .before .before .before .before .args .d) (c .before .before .before .before .before .before .before .before .before .before .before .before .before .before .args .s .now) (c .before .before .before .before .before .before .before .before .before .before .before .before .before .before .args .p) (c .before .before .before .before .before .before .before .before .before .before .before .before .before .before .args .n) (c .before .w .given .0 .0) (calls.expr-head (c .before .before .before .before .before .before .before .before .before .before .before .before .before .before .args .d) (c .before .before .before .before .before .before .before .before .before .before .before .before .before .before .args .s .now) (c .before .before .before .before .before .before .before .before .before .before .before .before .before .before .args .p) (c .before .before .before .before .before .before .before .before .before .before .before .before .before .before .args .n) (omega (arith, c .before .before .before .before .before .before .before .before .before .before .before .if1 .left)) (c .before .before .before .before .before .before .before .before .before .before .if2 .left) (c .before .before .before .before .before .before .before .before .before .if3 .left) (c .before .before .before .before .before .before .before .if4 .left) (c .before .before .before .before .before .before .if5 .left) (c .before .before .before .before .before .if6 .left) (c .before .before .before .before .if7 .left)) (sym (c .before .before .before .head-at .ensures) ∙ c .before .w .given .1))
+expression-returns-8 t c = steps.reads-bad encode (c .before .before .before .before .before .before .before .before .before .before .before .before .before .before .args .o) (exprAt (c .before .before .before .before .before .before .before .before .before .before .before .before .before .before .args .d) (c .before .before .before .before .before .before .before .before .before .before .before .before .before .before .args .s .now) (c .before .before .before .before .before .before .before .before .before .before .before .before .before .before .args .p) (c .before .before .before .before .before .before .before .before .before .before .before .before .before .before .args .n)) 20 (c .before .w .given .0 .0) (c .before .before .before .before .before .before .before .before .before .before .before .before .before .before .args .out .now) (c .before .before .before .before .before .before .before .before .before .before .before .before .before .before .args .out .now) (calls.call-not (c .before .before .before .before .before .before .before .before .before .before .before .before .before .before .args .d) (c .before .before .before .before .before .before .before .before .before .before .before .before .before .before .args .s .now) (c .before .before .before .before .before .before .before .before .before .before .before .before .before .before .args .p) (c .before .before .before .before .before .before .before .before .before .before .before .before .before .before .args .n) (c .before .w .given .0 .0) (calls.expr-head (c .before .before .before .before .before .before .before .before .before .before .before .before .before .before .args .d) (c .before .before .before .before .before .before .before .before .before .before .before .before .before .before .args .s .now) (c .before .before .before .before .before .before .before .before .before .before .before .before .before .before .args .p) (c .before .before .before .before .before .before .before .before .before .before .before .before .before .before .args .n) (omega (arith, c .before .before .before .before .before .before .before .before .before .before .before .if1 .left)) (omega (arith, c .before .before .before .before .before .before .before .before .before .before .if2 .left)) (c .before .before .before .before .before .before .before .before .before .if3 .left) (c .before .before .before .before .before .before .before .if4 .left) (c .before .before .before .before .before .before .if5 .left) (c .before .before .before .before .before .if6 .left) (c .before .before .before .before .if7 .left)) (sym (c .before .before .before .head-at .ensures) ∙ c .before .w .given .1))
 
 -- src/lib.rt:90:1
 expression-same-length-5 : (t : ℕ) → expression-lts.Need-same-length-5 (
@@ -734,7 +734,7 @@ expression-returns-9 : (t : ℕ) → expression-lts.Need-returns-9 (
   put-head-reads.Asked,
   put-head-reads.Learnt,
 ) (expression-at t) expression.Post
-expression-returns-9 t c = steps.reads-bad encode (c .before .before .before .before .before .before .before .before .before .before .before .before .before .before .before .before .before .before .before .before .before .args .o) (exprAt (c .before .before .before .before .before .before .before .before .before .before .before .before .before .before .before .before .before .before .before .before .before .args .d) (c .before .before .before .before .before .before .before .before .before .before .before .before .before .before .before .before .before .before .before .before .before .args .s .now) (c .before .before .before .before .before .before .before .before .before .before .before .before .before .before .before .before .before .before .before .before .before .args .p) (c .before .before .before .before .before .before .before .before .before .before .before .before .before .before .before .before .before .before .before .before .before .args .n)) (c .before .i .given .0 .0) (c .before .i .given .0 .1 .0) (c .before .before .before .before .before .before .before .before .before .before .before .before .before .before .before .before .before .before .before .before .before .args .out .now) (c .before .before .before .before .before .arguments .last .1 .1 .1 .1 .1 .1 .0) (calls.call-refused (c .before .before .before .before .before .before .before .before .before .before .before .before .before .before .before .before .before .before .before .before .before .args .d) (c .before .before .before .before .before .before .before .before .before .before .before .before .before .before .before .before .before .before .before .before .before .args .s .now) (c .before .before .before .before .before .before .before .before .before .before .before .before .before .before .before .before .before .before .before .before .before .args .p) (c .before .before .before .before .before .before .before .before .before .before .before .before .before .before .before .before .before .before .before .before .before .args .n) (c .before .before .before .before .before .before .before .before .k .given .0 .0) (c .before .before .before .before .before .before .before .before .k .given .0 .1 .0) (c .before .before .before .before .before .before .before .before .k .given .0 .1 .1 .0) (c .before .i .given .0 .0) (c .before .i .given .0 .1 .0) (calls.expr-head (c .before .before .before .before .before .before .before .before .before .before .before .before .before .before .before .before .before .before .before .before .before .args .d) (c .before .before .before .before .before .before .before .before .before .before .before .before .before .before .before .before .before .before .before .before .before .args .s .now) (c .before .before .before .before .before .before .before .before .before .before .before .before .before .before .before .before .before .before .before .before .before .args .p) (c .before .before .before .before .before .before .before .before .before .before .before .before .before .before .before .before .before .before .before .before .before .args .n) (omega (arith, c .before .before .before .before .before .before .before .before .before .before .before .before .before .before .before .before .before .before .if1 .left)) (c .before .before .before .before .before .before .before .before .before .before .before .before .before .before .before .before .before .if2 .left) (c .before .before .before .before .before .before .before .before .before .before .before .before .before .before .before .before .if3 .left) (c .before .before .before .before .before .before .before .before .before .before .before .before .before .before .if4 .left) (c .before .before .before .before .before .before .before .before .before .before .before .before .before .if5 .left) (c .before .before .before .before .before .before .before .before .before .before .before .before .if6 .left) (c .before .before .before .before .before .before .before .before .before .before .before .if7 .left)) (sym (c .before .before .before .before .before .before .before .before .before .before .head-at .ensures) ∙ c .before .before .before .before .before .before .before .before .k .given .1) (steps.bad-of encodes ((c .before .before .before .before .before .before .before .before .before .before .before .before .before .before .before .before .before .before .before .before .before .args .o) + 4) (argsAt (exprAt ((c .before .before .before .before .before .before .before .before .before .before .before .before .before .before .before .before .before .before .before .before .before .args .d) - 1) (c .before .before .before .before .before .before .before .before .before .before .before .before .before .before .before .before .before .before .before .before .before .args .s .now)) (c .before .before .before .before .before .before .before .before .before .before .before .before .before .before .before .before .before .before .before .before .before .args .s .now) (c .before .before .before .before .before .before .before .before .k .given .0 .1 .0) 40 (c .before .before .before .before .before .before .before .before .k .given .0 .1 .1 .0) ((c .before .before .before .before .before .before .before .before .before .before .before .before .before .before .before .before .before .before .before .before .before .args .n) + 1)) (c .before .before .before .before .before .arguments .result) (c .before .i .given .0 .0) (c .before .i .given .0 .1 .0) (c .before .before .before .before .before .before .before .before .before .before .before .before .before .before .before .before .before .before .before .before .before .args .out .now) (c .before .before .before .before .before .arguments .last .1 .1 .1 .1 .1 .1 .0) (c .before .before .before .before .before .arguments .ensures) (c .before .i .given .1)))
+expression-returns-9 t c = steps.reads-bad encode (c .before .before .before .before .before .before .before .before .before .before .before .before .before .before .before .before .before .before .before .before .before .args .o) (exprAt (c .before .before .before .before .before .before .before .before .before .before .before .before .before .before .before .before .before .before .before .before .before .args .d) (c .before .before .before .before .before .before .before .before .before .before .before .before .before .before .before .before .before .before .before .before .before .args .s .now) (c .before .before .before .before .before .before .before .before .before .before .before .before .before .before .before .before .before .before .before .before .before .args .p) (c .before .before .before .before .before .before .before .before .before .before .before .before .before .before .before .before .before .before .before .before .before .args .n)) (c .before .i .given .0 .0) (c .before .i .given .0 .1 .0) (c .before .before .before .before .before .before .before .before .before .before .before .before .before .before .before .before .before .before .before .before .before .args .out .now) (c .before .before .before .before .before .arguments .last .1 .1 .1 .1 .1 .1 .0) (calls.call-refused (c .before .before .before .before .before .before .before .before .before .before .before .before .before .before .before .before .before .before .before .before .before .args .d) (c .before .before .before .before .before .before .before .before .before .before .before .before .before .before .before .before .before .before .before .before .before .args .s .now) (c .before .before .before .before .before .before .before .before .before .before .before .before .before .before .before .before .before .before .before .before .before .args .p) (c .before .before .before .before .before .before .before .before .before .before .before .before .before .before .before .before .before .before .before .before .before .args .n) (c .before .before .before .before .before .before .before .before .k .given .0 .0) (c .before .before .before .before .before .before .before .before .k .given .0 .1 .0) (c .before .before .before .before .before .before .before .before .k .given .0 .1 .1 .0) (c .before .i .given .0 .0) (c .before .i .given .0 .1 .0) (calls.expr-head (c .before .before .before .before .before .before .before .before .before .before .before .before .before .before .before .before .before .before .before .before .before .args .d) (c .before .before .before .before .before .before .before .before .before .before .before .before .before .before .before .before .before .before .before .before .before .args .s .now) (c .before .before .before .before .before .before .before .before .before .before .before .before .before .before .before .before .before .before .before .before .before .args .p) (c .before .before .before .before .before .before .before .before .before .before .before .before .before .before .before .before .before .before .before .before .before .args .n) (omega (arith, c .before .before .before .before .before .before .before .before .before .before .before .before .before .before .before .before .before .before .if1 .left)) (omega (arith, c .before .before .before .before .before .before .before .before .before .before .before .before .before .before .before .before .before .if2 .left)) (c .before .before .before .before .before .before .before .before .before .before .before .before .before .before .before .before .if3 .left) (c .before .before .before .before .before .before .before .before .before .before .before .before .before .before .if4 .left) (c .before .before .before .before .before .before .before .before .before .before .before .before .before .if5 .left) (c .before .before .before .before .before .before .before .before .before .before .before .before .if6 .left) (c .before .before .before .before .before .before .before .before .before .before .before .if7 .left)) (sym (c .before .before .before .before .before .before .before .before .before .before .head-at .ensures) ∙ c .before .before .before .before .before .before .before .before .k .given .1) (steps.bad-of encodes ((c .before .before .before .before .before .before .before .before .before .before .before .before .before .before .before .before .before .before .before .before .before .args .o) + 4) (argsAt (exprAt ((c .before .before .before .before .before .before .before .before .before .before .before .before .before .before .before .before .before .before .before .before .before .args .d) - 1) (c .before .before .before .before .before .before .before .before .before .before .before .before .before .before .before .before .before .before .before .before .before .args .s .now)) (c .before .before .before .before .before .before .before .before .before .before .before .before .before .before .before .before .before .before .before .before .before .args .s .now) (c .before .before .before .before .before .before .before .before .k .given .0 .1 .0) 40 (c .before .before .before .before .before .before .before .before .k .given .0 .1 .1 .0) ((c .before .before .before .before .before .before .before .before .before .before .before .before .before .before .before .before .before .before .before .before .before .args .n) + 1)) (c .before .before .before .before .before .arguments .result) (c .before .i .given .0 .0) (c .before .i .given .0 .1 .0) (c .before .before .before .before .before .before .before .before .before .before .before .before .before .before .before .before .before .before .before .before .before .args .out .now) (c .before .before .before .before .before .arguments .last .1 .1 .1 .1 .1 .1 .0) (c .before .before .before .before .before .arguments .ensures) (c .before .i .given .1)))
 
 -- src/lib.rt:90:1
 expression-same-length-6 : (t : ℕ) → expression-lts.Need-same-length-6 (
@@ -764,7 +764,7 @@ expression-returns-10 : (t : ℕ) → expression-lts.Need-returns-10 (
   put-head-reads.Asked,
   put-head-reads.Learnt,
 ) (expression-at t) expression.Post
-expression-returns-10 t c = let M = c .before .before .before .before .before .before .before .before .before .before .before .before .before .before .before .before .before .before .before .before .before .before .before .before .before .pre .0 in let R = c .before .before .before .before .before .before .before .before .before .before .before .before .before .before .before .before .before .before .before .before .before .before .before .before .before .pre .1 in let B = (head-opened (c .before .before .before .before .before .before .before .before .before .before .before .before .before .before .before .before .before .before .before .before .before .before .before .before .before .args .s .now) (c .before .before .before .before .before .before .before .before .before .before .before .before .before .before .before .before .before .before .before .before .before .before .before .before .before .args .p) (c .before .before .before .before .before .before .before .before .before .before .before .before .k .given .0 .0) (c .before .before .before .before .before .before .before .before .before .before .before .before .k .given .0 .1 .0) (c .before .before .before .before .before .before .before .before .before .before .before .before .k .given .0 .1 .1 .0) (omega arith) (sym (c .before .before .before .before .before .before .before .before .before .before .before .before .before .before .head-at .ensures) ∙ c .before .before .before .before .before .before .before .before .before .before .before .before .k .given .1)) in let B1 = B .far in let B2 = B .within in let B3 = B .kind in calls.call-done (c .before .before .before .before .before .before .before .before .before .before .before .before .before .before .before .before .before .before .before .before .before .before .before .before .before .args .d) (c .before .before .before .before .before .before .before .before .before .before .before .before .before .before .before .before .before .before .before .before .before .before .before .before .before .args .s .now) (c .before .before .before .before .before .before .before .before .before .before .before .before .before .before .before .before .before .before .before .before .before .before .before .before .before .args .p) (c .before .before .before .before .before .before .before .before .before .before .before .before .before .before .before .before .before .before .before .before .before .before .before .before .before .args .n) (c .before .before .before .before .before .before .before .before .before .before .before .before .k .given .0 .0) (c .before .before .before .before .before .before .before .before .before .before .before .before .k .given .0 .1 .0) (c .before .before .before .before .before .before .before .before .before .before .before .before .k .given .0 .1 .1 .0) (c .before .before .before .before .before .before .before .before .before .before .before .before .before .before .before .before .before .before .before .before .before .before .before .before .before .args .o) (c .before .before .before .before .before .u .given .0 .0) (c .before .before .before .before .before .u .given .0 .1 .0) (c .before .before .before .before .before .u .given .0 .1 .1 .0) (c .before .before .before .before .before .before .before .before .before .before .before .before .before .before .before .before .before .before .before .before .before .before .before .before .before .args .out .now) (c .before .before .before .before .before .before .before .before .before .arguments .last .1 .1 .1 .1 .1 .1 .0) (c .before .before .put-head .last .0) (calls.expr-head (c .before .before .before .before .before .before .before .before .before .before .before .before .before .before .before .before .before .before .before .before .before .before .before .before .before .args .d) (c .before .before .before .before .before .before .before .before .before .before .before .before .before .before .before .before .before .before .before .before .before .before .before .before .before .args .s .now) (c .before .before .before .before .before .before .before .before .before .before .before .before .before .before .before .before .before .before .before .before .before .before .before .before .before .args .p) (c .before .before .before .before .before .before .before .before .before .before .before .before .before .before .before .before .before .before .before .before .before .before .before .before .before .args .n) (omega (arith, c .before .before .before .before .before .before .before .before .before .before .before .before .before .before .before .before .before .before .before .before .before .before .if1 .left)) (c .before .before .before .before .before .before .before .before .before .before .before .before .before .before .before .before .before .before .before .before .before .if2 .left) (c .before .before .before .before .before .before .before .before .before .before .before .before .before .before .before .before .before .before .before .before .if3 .left) (c .before .before .before .before .before .before .before .before .before .before .before .before .before .before .before .before .before .before .if4 .left) (c .before .before .before .before .before .before .before .before .before .before .before .before .before .before .before .before .before .if5 .left) (c .before .before .before .before .before .before .before .before .before .before .before .before .before .before .before .before .if6 .left) (c .before .before .before .before .before .before .before .before .before .before .before .before .before .before .before .if7 .left)) (sym (c .before .before .before .before .before .before .before .before .before .before .before .before .before .before .head-at .ensures) ∙ c .before .before .before .before .before .before .before .before .before .before .before .before .k .given .1) B (R .2) (steps.got-of encodes ((c .before .before .before .before .before .before .before .before .before .before .before .before .before .before .before .before .before .before .before .before .before .before .before .before .before .args .o) + 4) (argsAt (exprAt ((c .before .before .before .before .before .before .before .before .before .before .before .before .before .before .before .before .before .before .before .before .before .before .before .before .before .args .d) - 1) (c .before .before .before .before .before .before .before .before .before .before .before .before .before .before .before .before .before .before .before .before .before .before .before .before .before .args .s .now)) (c .before .before .before .before .before .before .before .before .before .before .before .before .before .before .before .before .before .before .before .before .before .before .before .before .before .args .s .now) (c .before .before .before .before .before .before .before .before .before .before .before .before .k .given .0 .1 .0) 40 (c .before .before .before .before .before .before .before .before .before .before .before .before .k .given .0 .1 .1 .0) ((c .before .before .before .before .before .before .before .before .before .before .before .before .before .before .before .before .before .before .before .before .before .before .before .before .before .args .n) + 1)) (c .before .before .before .before .before .before .before .before .before .arguments .result) (c .before .before .before .before .before .u .given .0 .0) (c .before .before .before .before .before .u .given .0 .1 .0) (c .before .before .before .before .before .u .given .0 .1 .1 .0) (c .before .before .before .before .before .before .before .before .before .before .before .before .before .before .before .before .before .before .before .before .before .before .before .before .before .args .out .now) (c .before .before .before .before .before .before .before .before .before .arguments .last .1 .1 .1 .1 .1 .1 .0) (c .before .before .before .before .before .before .before .before .before .arguments .ensures) (c .before .before .before .before .before .u .given .1)) (c .before .before .put-head .ensures)
+expression-returns-10 t c = let M = c .before .before .before .before .before .before .before .before .before .before .before .before .before .before .before .before .before .before .before .before .before .before .before .before .before .pre .0 in let R = c .before .before .before .before .before .before .before .before .before .before .before .before .before .before .before .before .before .before .before .before .before .before .before .before .before .pre .1 in let B = (head-opened (c .before .before .before .before .before .before .before .before .before .before .before .before .before .before .before .before .before .before .before .before .before .before .before .before .before .args .s .now) (c .before .before .before .before .before .before .before .before .before .before .before .before .before .before .before .before .before .before .before .before .before .before .before .before .before .args .p) (c .before .before .before .before .before .before .before .before .before .before .before .before .k .given .0 .0) (c .before .before .before .before .before .before .before .before .before .before .before .before .k .given .0 .1 .0) (c .before .before .before .before .before .before .before .before .before .before .before .before .k .given .0 .1 .1 .0) (omega arith) (sym (c .before .before .before .before .before .before .before .before .before .before .before .before .before .before .head-at .ensures) ∙ c .before .before .before .before .before .before .before .before .before .before .before .before .k .given .1)) in let B1 = B .far in let B2 = B .within in let B3 = B .kind in calls.call-done (c .before .before .before .before .before .before .before .before .before .before .before .before .before .before .before .before .before .before .before .before .before .before .before .before .before .args .d) (c .before .before .before .before .before .before .before .before .before .before .before .before .before .before .before .before .before .before .before .before .before .before .before .before .before .args .s .now) (c .before .before .before .before .before .before .before .before .before .before .before .before .before .before .before .before .before .before .before .before .before .before .before .before .before .args .p) (c .before .before .before .before .before .before .before .before .before .before .before .before .before .before .before .before .before .before .before .before .before .before .before .before .before .args .n) (c .before .before .before .before .before .before .before .before .before .before .before .before .k .given .0 .0) (c .before .before .before .before .before .before .before .before .before .before .before .before .k .given .0 .1 .0) (c .before .before .before .before .before .before .before .before .before .before .before .before .k .given .0 .1 .1 .0) (c .before .before .before .before .before .before .before .before .before .before .before .before .before .before .before .before .before .before .before .before .before .before .before .before .before .args .o) (c .before .before .before .before .before .u .given .0 .0) (c .before .before .before .before .before .u .given .0 .1 .0) (c .before .before .before .before .before .u .given .0 .1 .1 .0) (c .before .before .before .before .before .before .before .before .before .before .before .before .before .before .before .before .before .before .before .before .before .before .before .before .before .args .out .now) (c .before .before .before .before .before .before .before .before .before .arguments .last .1 .1 .1 .1 .1 .1 .0) (c .before .before .put-head .last .0) (calls.expr-head (c .before .before .before .before .before .before .before .before .before .before .before .before .before .before .before .before .before .before .before .before .before .before .before .before .before .args .d) (c .before .before .before .before .before .before .before .before .before .before .before .before .before .before .before .before .before .before .before .before .before .before .before .before .before .args .s .now) (c .before .before .before .before .before .before .before .before .before .before .before .before .before .before .before .before .before .before .before .before .before .before .before .before .before .args .p) (c .before .before .before .before .before .before .before .before .before .before .before .before .before .before .before .before .before .before .before .before .before .before .before .before .before .args .n) (omega (arith, c .before .before .before .before .before .before .before .before .before .before .before .before .before .before .before .before .before .before .before .before .before .before .if1 .left)) (omega (arith, c .before .before .before .before .before .before .before .before .before .before .before .before .before .before .before .before .before .before .before .before .before .if2 .left)) (c .before .before .before .before .before .before .before .before .before .before .before .before .before .before .before .before .before .before .before .before .if3 .left) (c .before .before .before .before .before .before .before .before .before .before .before .before .before .before .before .before .before .before .if4 .left) (c .before .before .before .before .before .before .before .before .before .before .before .before .before .before .before .before .before .if5 .left) (c .before .before .before .before .before .before .before .before .before .before .before .before .before .before .before .before .if6 .left) (c .before .before .before .before .before .before .before .before .before .before .before .before .before .before .before .if7 .left)) (sym (c .before .before .before .before .before .before .before .before .before .before .before .before .before .before .head-at .ensures) ∙ c .before .before .before .before .before .before .before .before .before .before .before .before .k .given .1) B (R .2) (steps.got-of encodes ((c .before .before .before .before .before .before .before .before .before .before .before .before .before .before .before .before .before .before .before .before .before .before .before .before .before .args .o) + 4) (argsAt (exprAt ((c .before .before .before .before .before .before .before .before .before .before .before .before .before .before .before .before .before .before .before .before .before .before .before .before .before .args .d) - 1) (c .before .before .before .before .before .before .before .before .before .before .before .before .before .before .before .before .before .before .before .before .before .before .before .before .before .args .s .now)) (c .before .before .before .before .before .before .before .before .before .before .before .before .before .before .before .before .before .before .before .before .before .before .before .before .before .args .s .now) (c .before .before .before .before .before .before .before .before .before .before .before .before .k .given .0 .1 .0) 40 (c .before .before .before .before .before .before .before .before .before .before .before .before .k .given .0 .1 .1 .0) ((c .before .before .before .before .before .before .before .before .before .before .before .before .before .before .before .before .before .before .before .before .before .before .before .before .before .args .n) + 1)) (c .before .before .before .before .before .before .before .before .before .arguments .result) (c .before .before .before .before .before .u .given .0 .0) (c .before .before .before .before .before .u .given .0 .1 .0) (c .before .before .before .before .before .u .given .0 .1 .1 .0) (c .before .before .before .before .before .before .before .before .before .before .before .before .before .before .before .before .before .before .before .before .before .before .before .before .before .args .out .now) (c .before .before .before .before .before .before .before .before .before .arguments .last .1 .1 .1 .1 .1 .1 .0) (c .before .before .before .before .before .before .before .before .before .arguments .ensures) (c .before .before .before .before .before .u .given .1)) (c .before .before .put-head .ensures)
 
 pub +arguments+expression-spec : {M : Type 1} → statement M
 +arguments+expression-spec = close μ-arguments μ-expression (λ t. arguments-lts.spec (

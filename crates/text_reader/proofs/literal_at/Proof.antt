@@ -106,7 +106,7 @@ same-length-2 c = c .before .before .before .before .before .before .before .loo
 
 -- src/lib.rt:81:17
 returns-2 : tie.Need-returns-2 Inv-loop μ-loop
-returns-2 c = literals.literal-long (c .before .before .before .before .before .before .before .before .before .before .before .args .s .now) (c .before .before .before .before .before .before .before .before .before .before .before .args .p) (c .before .before .before .before .before .before .before .before .before .before .before .args .o) (c .before .before .before .before .before .before .before .before .before .before .before .args .n) (c .before .before .before .before .before .before .before .before .before .before .before .args .out .now) (c .before .before .before .before .before .before .before .loop .j) (c .before .before .before .before .before .before .before .loop .q) (c .before .before .before .before .before .before .before .loop .b) (c .before .before .before .before .before .before .before .loop .out) (c .before .before .before .before .before .before .before .loop .inv) (omega (arith, c .before .before .before .before .before .digit-at .ensures)) (tokens.due-stood (dueAt (c .before .before .before .before .before .before .before .before .before .before .before .args .s .now) 39 39 (c .before .before .before .before .before .before .before .loop .q)) (sym (c .before .before .before .due-at .ensures) ∙ c .before .enum-told .given .1)) (c .if2 .taken)
+returns-2 c = literals.literal-long (c .before .before .before .before .before .before .before .before .before .before .before .args .s .now) (c .before .before .before .before .before .before .before .before .before .before .before .args .p) (c .before .before .before .before .before .before .before .before .before .before .before .args .o) (c .before .before .before .before .before .before .before .before .before .before .before .args .n) (c .before .before .before .before .before .before .before .before .before .before .before .args .out .now) (c .before .before .before .before .before .before .before .loop .j) (c .before .before .before .before .before .before .before .loop .q) (c .before .before .before .before .before .before .before .loop .b) (c .before .before .before .before .before .before .before .loop .out) (c .before .before .before .before .before .before .before .loop .inv) (omega (arith, c .before .before .before .before .before .digit-at .ensures)) (tokens.due-stood (dueAt (c .before .before .before .before .before .before .before .before .before .before .before .args .s .now) 39 39 (c .before .before .before .before .before .before .before .loop .q)) (sym (c .before .before .before .due-at .ensures) ∙ c .before .enum-told .given .1)) (omega (arith, c .if2 .taken))
 
 -- src/lib.rt:83:13
 put-head-requires : tie.Need-put-head-requires Inv-loop μ-loop
@@ -142,7 +142,7 @@ same-length-4 c = c .before .before .put-head .kept .0 ∙ c .before .before .be
 
 -- src/lib.rt:60:1
 returns-4 : tie.Need-returns-4 Inv-loop μ-loop
-returns-4 c = let d = due-is (c .before .before .before .before .before .before .before .before .before .before .before .before .before .before .before .args .s .now) 39 39 (c .before .before .before .before .before .before .before .before .before .before .before .loop .q) (tokens.due-stood (dueAt (c .before .before .before .before .before .before .before .before .before .before .before .before .before .before .before .args .s .now) 39 39 (c .before .before .before .before .before .before .before .before .before .before .before .loop .q)) (sym (c .before .before .before .before .before .before .before .due-at .ensures) ∙ c .before .before .before .before .before .enum-told .given .1)) in let i = d .inside in let pl = c .before .before .before .before .before .before .before .before .before .before .before .loop .inv .place in let lg = c .before .before .before .before .before .before .before .before .before .before .before .loop .inv .stored .long in let pre = c .before .before .before .before .before .before .before .before .before .before .before .before .before .before .before .pre in literals.literal-done (c .before .before .before .before .before .before .before .before .before .before .before .before .before .before .before .args .s .now) (c .before .before .before .before .before .before .before .before .before .before .before .before .before .before .before .args .p) (c .before .before .before .before .before .before .before .before .before .before .before .before .before .before .before .args .o) (c .before .before .before .before .before .before .before .before .before .before .before .before .before .before .before .args .n) (c .before .before .before .before .before .before .before .before .before .before .before .before .before .before .before .args .out .now) (c .before .before .before .before .before .before .before .before .before .before .before .loop .j) (c .before .before .before .before .before .before .before .before .before .before .before .loop .q) (c .before .before .before .before .before .before .before .before .before .before .before .loop .b) (c .before .before .before .before .before .before .before .before .before .before .before .loop .out) (c .before .before .before .before .before .before .before .before .before .before .before .loop .inv) (c .before .before .put-head .last .0) (omega (arith, c .before .before .before .before .before .before .before .before .before .digit-at .ensures)) (tokens.due-stood (dueAt (c .before .before .before .before .before .before .before .before .before .before .before .before .before .before .before .args .s .now) 39 39 (c .before .before .before .before .before .before .before .before .before .before .before .loop .q)) (sym (c .before .before .before .before .before .before .before .due-at .ensures) ∙ c .before .before .before .before .before .enum-told .given .1)) (c .before .before .before .before .if2 .left) (omega arith) (c .before .before .put-head .ensures)
+returns-4 c = let d = due-is (c .before .before .before .before .before .before .before .before .before .before .before .before .before .before .before .args .s .now) 39 39 (c .before .before .before .before .before .before .before .before .before .before .before .loop .q) (tokens.due-stood (dueAt (c .before .before .before .before .before .before .before .before .before .before .before .before .before .before .before .args .s .now) 39 39 (c .before .before .before .before .before .before .before .before .before .before .before .loop .q)) (sym (c .before .before .before .before .before .before .before .due-at .ensures) ∙ c .before .before .before .before .before .enum-told .given .1)) in let i = d .inside in let pl = c .before .before .before .before .before .before .before .before .before .before .before .loop .inv .place in let lg = c .before .before .before .before .before .before .before .before .before .before .before .loop .inv .stored .long in let pre = c .before .before .before .before .before .before .before .before .before .before .before .before .before .before .before .pre in literals.literal-done (c .before .before .before .before .before .before .before .before .before .before .before .before .before .before .before .args .s .now) (c .before .before .before .before .before .before .before .before .before .before .before .before .before .before .before .args .p) (c .before .before .before .before .before .before .before .before .before .before .before .before .before .before .before .args .o) (c .before .before .before .before .before .before .before .before .before .before .before .before .before .before .before .args .n) (c .before .before .before .before .before .before .before .before .before .before .before .before .before .before .before .args .out .now) (c .before .before .before .before .before .before .before .before .before .before .before .loop .j) (c .before .before .before .before .before .before .before .before .before .before .before .loop .q) (c .before .before .before .before .before .before .before .before .before .before .before .loop .b) (c .before .before .before .before .before .before .before .before .before .before .before .loop .out) (c .before .before .before .before .before .before .before .before .before .before .before .loop .inv) (c .before .before .put-head .last .0) (omega (arith, c .before .before .before .before .before .before .before .before .before .digit-at .ensures)) (tokens.due-stood (dueAt (c .before .before .before .before .before .before .before .before .before .before .before .before .before .before .before .args .s .now) 39 39 (c .before .before .before .before .before .before .before .before .before .before .before .loop .q)) (sym (c .before .before .before .before .before .before .before .due-at .ensures) ∙ c .before .before .before .before .before .enum-told .given .1)) (omega (arith, c .before .before .before .before .if2 .left)) (omega arith) (c .before .before .put-head .ensures)
 
 pub literal-at-spec : {M : Type 1} → statement M
 literal-at-spec =
