@@ -41,7 +41,10 @@ fn figure_at(s: &[u8], p: usize) -> Figure
         d = tokens::digit_at(s, i);
     }
     if i < s.len() {
-        return Figure { value: v, next: i + 1 };
+        return Figure {
+            value: v,
+            next: i + 1,
+        };
     }
     Figure { value: v, next: i }
 }
@@ -64,26 +67,44 @@ fn line_end(s: &[u8], p: usize) -> usize
 // 21 is judged before reading.
 fn read_row(text: &[u8]) -> Answer {
     if 4096 < text.len() {
-        return Answer { number: 21, place: 0 };
+        return Answer {
+            number: 21,
+            place: 0,
+        };
     }
     let mut out = [0u8; 12288];
     match text_reader::read(text, &mut out) {
-        Parsed::Fine(n) => Answer { number: 0, place: 0 },
-        Parsed::No(k, p) => Answer { number: k, place: p },
+        Parsed::Fine(n) => Answer {
+            number: 0,
+            place: 0,
+        },
+        Parsed::No(k, p) => Answer {
+            number: k,
+            place: p,
+        },
     }
 }
 
 fn scan_row(s: &[u8]) -> Answer {
     if s.len() < 5 {
-        return Answer { number: 99, place: 0 };
+        return Answer {
+            number: 99,
+            place: 0,
+        };
     }
     let b0 = s[0] == b'1';
     let b1 = s[1] == b'1';
     let b2 = s[2] == b'1';
     let b3 = s[3] == b'1';
     match unbound::first_unbound(&s[5..], b0, b1, b2, b3) {
-        Place::At(p) => Answer { number: 25, place: p },
-        Place::Nowhere => Answer { number: 0, place: 0 },
+        Place::At(p) => Answer {
+            number: 25,
+            place: p,
+        },
+        Place::Nowhere => Answer {
+            number: 0,
+            place: 0,
+        },
     }
 }
 
