@@ -5,3 +5,4 @@ pub mod Literals
 pub mod Zeros
 pub mod Calls
 pub mod Answers
+pub mod Decoded
