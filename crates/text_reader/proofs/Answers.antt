@@ -12,7 +12,7 @@ use Rattle.tree.specs.Reading as tree
 use Rattle.tree.specs.Reading.Read.{got, wrong}
 use Rattle.records.specs.Encode.{encode}
 use Rattle.texts.specs.Reading.{exprAt, endAt, readText}
-use Rattle.texts.specs.Reading.Part.{part, bad}
+use Rattle.texts.specs.Reading.Part.{bad}
 use Rattle.text_reader.specs.declared.Parsed.{Parsed}
 use Rattle.text_reader.specs.declared.Parsed.the-variants.{Fine, No}
 use Rattle.text_reader.specs.Reader.{put, parsedOf, cleared, outOf, Holds, Whole, Answers}

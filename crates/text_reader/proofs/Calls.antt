@@ -1,7 +1,7 @@
 -- Expressions and their argument lists: one law for each way out.
 use mathlib.Core.Bool.{Bool, true, false}
 use mathlib.Core.List.{List, [], _∷_, _++_, append-nil}
-use mathlib.Core.Path.{_≡_, refl, ap, ap₂, sym, _∙_}
+use mathlib.Core.Path.{_≡_, refl, ap, sym, _∙_}
 use Prim.Native.Nat.{ℕ, zero, suc, _+_, _*_, _-_, _≤_, _<_}
 use native.Mathlib.Omega.{arith}
 use lib.Dec.{eqb}
@@ -9,30 +9,29 @@ use lib.ListN.{length, take, drop, getD, length-append, length-drop}
 use borrow.Author.Tests.{eq-eqb, ne-eqb, eqb-true}
 use Rattle.common.specs.Choice.{pick}
 use Rattle.tree.specs.Tree.{Tree}
-use Rattle.tree.specs.Tree.Tree.{literal, bound, row, run, one, two, three, four, when}
+use Rattle.tree.specs.Tree.Tree.{bound, row, run, one, two, three, four, when}
 use Rattle.tree.specs.Calls.{calls, plain, cipher}
 use Rattle.tree.specs.Bounds.{whenKind}
 use Rattle.records.specs.Record.{recordOf}
 use Rattle.records.specs.Encode.{encode, boundKind, rowKind, runKind}
 use Rattle.records.proofs.There.{length-record}
-use Rattle.texts.specs.Spelling.{listed, spell, width}
+use Rattle.texts.specs.Spelling.{listed, spell}
 use Rattle.texts.specs.Reading.{Part, thenPart, isLetter, runOf, dueAt, ifDue, same, callIn, callOf, startOf, literalAt, nameAt, argsAt, listAt, namedAt, callOn, byStart, exprAt}
 use Rattle.texts.specs.Reading.Part.{part, bad}
 use Rattle.texts.specs.Reading.Due.{stands, missing}
-use Rattle.texts.specs.Reading.Start.{quote, hash, dollar, sign, letter, other}
+use Rattle.texts.specs.Reading.Start.{letter, other}
 use Rattle.texts.proofs.Width.{length-spell}
 use Rattle.texts.proofs.Spelt.{spells}
 use Rattle.texts.proofs.Back.{expr-back, args-back}
-use Rattle.texts.proofs.Ways.{Taken, expr-in, expr-taken, run-stop}
+use Rattle.texts.proofs.Ways.{expr-in, expr-taken, run-stop}
 use Rattle.recipe.proofs.Reach.{encode-reach}
 use Rattle.tokens.specs.Tokens.{headAt}
 use Rattle.tokens.specs.declared.Head.the-variants.{Opens, Not}
-use Rattle.tokens.proofs.Heads.{Opened, afterHead, head-call, head-opened}
-use Rattle.text_reader.specs.declared.Step.{Step}
-use Rattle.text_reader.specs.declared.Step.the-variants.{Read, No}
+use Rattle.tokens.proofs.Heads.{Opened, afterHead, head-call}
+use Rattle.text_reader.specs.declared.Step.the-variants.{Read}
 use Rattle.text_reader.specs.Reader.{put, encodes, inRecords, leafAt, Reads}
 use Rattle.text_reader.proofs.Put.{front, head-before}
-use Rattle.text_reader.proofs.Steps.{Got, reads-bad, reads-part, leaf-is}
+use Rattle.text_reader.proofs.Steps.{Got, reads-part, leaf-is}
 
 -- an expression by its first byte
 module _ (d : ℕ) (s : List ℕ) (p n : ℕ) (deep : 0 < d) (few : n < 128) (inside : p < length s) where

@@ -1,10 +1,10 @@
 -- A literal, pair by pair.
 use mathlib.Core.Bool.{Bool, true, false}
-use mathlib.Core.List.{List, [], _∷_, _++_}
+use mathlib.Core.List.{List}
 use mathlib.Core.Path.{_≡_, refl, ap, ap₂, sym, _∙_}
 use Prim.Native.Nat.{ℕ, suc, _+_, _*_, _-_, _/_, _%_, _≤_, _<_}
 use native.Mathlib.Omega.{arith}
-use lib.Dec.{leb, eqb}
+use lib.Dec.{leb}
 use lib.ListN.{length, drop, getD, set}
 use borrow.Author.Tests.{le-leb, lt-leb, leb-false, leb-true, eq-eqb, ne-eqb}
 use Rattle.common.specs.Choice.{pick}
@@ -12,14 +12,13 @@ use Rattle.common.specs.Places.{tab}
 use Rattle.common.proofs.Places.{length-tab}
 use Rattle.common.proofs.Runs.{Run, run-none, run-more}
 use Rattle.tree.specs.Tree.Tree.{literal}
-use Rattle.records.specs.Record.{recordOf}
 use Rattle.records.specs.Encode.{encode, constantKind}
 use Rattle.records.proofs.There.{length-record}
 use Rattle.texts.specs.Reading as reading
-use Rattle.texts.specs.Reading.{between, dueAt, ifDue, runOf, isHex, hexValue, pairAt, literalOf, literalAt}
+use Rattle.texts.specs.Reading.{between, dueAt, ifDue, runOf, isHex, pairAt, literalOf, literalAt}
 use Rattle.texts.specs.Reading.Part.{part, bad}
 use Rattle.texts.specs.Reading.Due.{stands, missing}
-use Rattle.texts.proofs.Ways.{run-step, due-end}
+use Rattle.texts.proofs.Ways.{run-step}
 use Rattle.tokens.specs.Tokens.{digitAt, pairOf}
 use Rattle.tokens.proofs.Laws.{Figure, digit-there, digit-none, pair-whole}
 use Rattle.text_reader.specs.declared.Step.the-variants.{Read, No}

@@ -1,16 +1,15 @@
 -- What an answer says of what was read, and what was read of the answer.
-use mathlib.Core.List.{List, [], _∷_, _++_, append-nil}
+use mathlib.Core.List.{List, [], _∷_}
 use mathlib.Core.Path.{_≡_, refl, ap, sym, _∙_}
-use Prim.Native.Nat.{ℕ, suc, _+_, _*_, _-_, _≤_, _<_}
+use Prim.Native.Nat.{ℕ, _+_, _-_, _≤_}
 use native.Mathlib.Nat.{add-zero}
 use native.Mathlib.Omega.{arith}
 use lib.ListN.{length, length-append, getD}
 use Rattle.tree.specs.Tree.{Tree}
-use Rattle.tree.specs.Tree.Tree.{bound, row, run}
 use Rattle.records.specs.Record.{recordOf}
-use Rattle.records.specs.Encode.{encode, boundKind, rowKind, runKind}
+use Rattle.records.specs.Encode.{encode}
 use Rattle.texts.specs.Reading as reading
-use Rattle.texts.specs.Reading.{Part, thenPart, dueAt, ifDue, nameAt, argsAt}
+use Rattle.texts.specs.Reading.{Part, thenPart, dueAt, ifDue, nameAt}
 use Rattle.texts.specs.Reading.Part.{part, bad}
 use Rattle.texts.specs.Reading.Due.{stands, missing}
 use Rattle.text_reader.specs.declared.Step.{Step}

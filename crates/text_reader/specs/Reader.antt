@@ -12,7 +12,6 @@ use Rattle.texts.specs.Reading.{Part, dueAt, ifDue}
 use Rattle.texts.specs.Reading.Part.{part, bad}
 use Rattle.text_reader.specs.declared.Step as step
 use Rattle.text_reader.specs.declared.Step.{Step}
-use Rattle.text_reader.specs.declared.Parsed as parsed
 use Rattle.text_reader.specs.declared.Parsed.{Parsed}
 use Rattle.text_reader.specs.declared.Parsed.the-variants.{Fine, No}
 

@@ -1,7 +1,7 @@
 // Reads a recipe's text to its tree in records (document 01, sections 5 to 7), or to a number and its place.
 ghost use mathlib.Core.Path.{_≡_};
 ghost use mathlib.Core.List.{[], _∷_};
-ghost use Prim.Native.Nat.{ℕ, _+_, _*_, _-_, _/_, _%_, _≤_, _<_};
+ghost use Prim.Native.Nat.{_+_, _*_, _-_, _/_, _%_, _≤_, _<_};
 ghost use lib.ListN.{length};
 ghost use Rattle.records.specs.Record.{recordOf};
 ghost use Rattle.records.specs.Encode.{encode};

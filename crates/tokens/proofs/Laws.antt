@@ -1,36 +1,34 @@
 -- The pieces of a text and what reading says of them.
 use mathlib.Core.Bool.{Bool, true, false}
 use mathlib.Core.List.{List, [], _∷_, _++_}
-use mathlib.Core.Path.{_≡_, refl, sym, ap, ap₂, _∙_}
+use mathlib.Core.Path.{_≡_, refl, sym, ap, _∙_}
 use Prim.Native.Nat.{ℕ, zero, suc, _+_, _-_, _*_, _≤_, _<_, _^_}
 use native.Mathlib.Nat.{add-zero}
 use native.Mathlib.Numerals.{add-one}
 use native.Mathlib.Omega.{arith}
-use lib.Dec.{leb, ltb}
+use lib.Dec.{leb}
 use lib.ListN.{length, take, drop, getD, length-drop}
 use lib.Seq.{take-take, take-suc, getD-drop, length-take-le}
 use borrow.Author.Tests.{le-leb, lt-leb, le-ltb, lt-ltb, leb-true, leb-false}
 use Rattle.common.specs.Choice.{pick}
-use Rattle.tree.specs.Tree.{Tree}
 use Rattle.tree.specs.Calls as table
 use Rattle.tree.specs.Calls.{calls, plain, cipher}
 use Rattle.texts.specs.Spelling.{Found}
 use Rattle.texts.specs.Spelling.Found.{known, unknown}
 use Rattle.texts.specs.Reading as reading
-use Rattle.texts.specs.Reading.{Part, between, isHex, isLetter, hexValue, runOf, dueAt, ifDue, callIn, listAt, suiteAt, namedAt, callOn}
-use Rattle.texts.specs.Reading.Part.{part, bad}
+use Rattle.texts.specs.Reading.{between, isHex, isLetter, hexValue, runOf, dueAt, callIn}
+use Rattle.texts.specs.Reading.Part.{part}
 use Rattle.texts.specs.Reading.Due.{stands, missing}
 use Rattle.texts.specs.Packed.{packed, callBy}
-use Rattle.texts.proofs.Standing.{Pass, between-true, between-is, due-is, run-pass, run-within}
+use Rattle.texts.proofs.Standing.{Pass, between-true, between-is, run-pass, run-within}
 use Rattle.texts.proofs.Ways.{due-end, due-other, due-here, run-step, run-stop, run-end}
 use Rattle.texts.proofs.LeavesBack.{digit-is}
-use Rattle.texts.proofs.Table.{Good, All, all-good, by-letters}
+use Rattle.texts.proofs.Table.{All, by-letters}
 use Rattle.texts.proofs.Packed.{call-packed, call-long, packed-more, packed-lt}
 use Rattle.tokens.specs.declared.Due.{Due}
 use Rattle.tokens.specs.declared.Due.the-variants.{Stands, Missing}
 use Rattle.tokens.specs.declared.Call.{Call}
-use Rattle.tokens.specs.declared.Call.the-variants.{Plain, Cipher, Unknown}
-use Rattle.tokens.specs.declared.Head.{Head}
+use Rattle.tokens.specs.declared.Call.the-variants.{Cipher, Unknown}
 use Rattle.tokens.specs.declared.Head.the-variants.{Opens, Not}
 use Rattle.tokens.specs.Tokens.{dueIs, digitOf, digitAt, pairOf, letterOf, letterAt, moreOf, Lettered, rowIs, callIs, headDue, suiteHead, headOf, headAt}
 

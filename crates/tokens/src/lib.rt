@@ -1,6 +1,6 @@
 // The pieces that a recipe's text is read by (document 01, sections 5 and 7): each reads its bytes once.
 ghost use mathlib.Core.Path.{_≡_};
-ghost use Prim.Native.Nat.{_+_, _≤_, _<_};
+ghost use Prim.Native.Nat.{_≤_, _<_};
 ghost use Rattle.texts.specs.Reading.{dueAt};
 ghost use Rattle.texts.specs.Packed.{callBy};
 ghost use Rattle.tree.specs.Calls.{calls};

@@ -1,7 +1,6 @@
 // The scan of a text for the first `#` without a value (document 01, section 7: 25).
 ghost use mathlib.Core.Path.{_≡_};
-ghost use mathlib.Core.Bool.{true};
-ghost use Prim.Native.Nat.{_+_, _-_, _<_};
+ghost use Prim.Native.Nat.{_-_, _<_};
 ghost use lib.ListN.{length, getD};
 ghost use Rattle.texts.specs.Unbound.{unboundIn};
 ghost use Rattle.unbound.specs.Scan.{placeIs, hasOf, openAt};

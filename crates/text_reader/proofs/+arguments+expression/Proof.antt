@@ -2,16 +2,15 @@ use Rattle.text_reader.proofs.Steps as steps
 use Rattle.text_reader.proofs.Calls as calls
 use Rattle.text_reader.specs.Reader.{encodes, inRecords}
 use Rattle.records.specs.Encode.{encode}
-use Rattle.tokens.specs.Tokens.{headAt}
 use Rattle.tokens.proofs.Laws as tokens
 use Rattle.tokens.proofs.Heads.{head-opened}
 use Rattle.texts.specs.Reading.{dueAt, exprAt, argsAt}
 use Rattle.texts.proofs.Standing.{due-is}
 use Rattle.texts.proofs.Ways as ways
-use Prim.Native.Nat.{_+_, _-_, _*_, _≤_}
-use lib.ListN.{length, getD}
+use Prim.Native.Nat.{_+_, _-_}
+use lib.ListN.{length}
 use native.Mathlib.Omega.{arith}
-use mathlib.Core.Path.{_≡_, refl, sym, ap, _∙_}
+use mathlib.Core.Path.{sym, ap, _∙_}
 use borrow.Author.Needs.{needs}
 use Prim.Native.Nat.{ℕ, _<_}
 use borrow.Fn.Kinds.{In}
@@ -51,7 +50,6 @@ abbrev expression-below : ℕ → In 2 expression-kinds.ps
 expression-below t =
     and 2 expression-kinds.ps (falls 2 expression-kinds.ps _<_ μ-expression t) expression.Pre
 
--- src/lib.rt:143:22
 arguments-due-at-requires : (t : ℕ) → arguments-lts.Need-due-at-requires (
   due-at-reads.Asked,
   due-at-reads.Learnt,
@@ -62,7 +60,6 @@ arguments-due-at-requires : (t : ℕ) → arguments-lts.Need-due-at-requires (
 ) (arguments-at t) arguments.Post
 arguments-due-at-requires t c κs = search needs
 
--- src/lib.rt:144:26
 arguments-enum-known-w : (t : ℕ) → arguments-lts.Need-enum-known-w (
   due-at-reads.Asked,
   due-at-reads.Learnt,
@@ -73,7 +70,6 @@ arguments-enum-known-w : (t : ℕ) → arguments-lts.Need-enum-known-w (
 ) (arguments-at t) arguments.Post
 arguments-enum-known-w t c = search needs
 
--- src/lib.rt:145:39
 arguments-enum-told : (t : ℕ) → arguments-lts.Need-enum-told (
   due-at-reads.Asked,
   due-at-reads.Learnt,
@@ -84,7 +80,6 @@ arguments-enum-told : (t : ℕ) → arguments-lts.Need-enum-told (
 ) (arguments-at t) arguments.Post
 arguments-enum-told t c = search needs
 
--- src/lib.rt:145:39
 arguments-add-t19 : (t : ℕ) → arguments-lts.Need-add-t19 (
   due-at-reads.Asked,
   due-at-reads.Learnt,
@@ -95,7 +90,6 @@ arguments-add-t19 : (t : ℕ) → arguments-lts.Need-add-t19 (
 ) (arguments-at t) arguments.Post
 arguments-add-t19 t c = let d = due-is (c .before .before .before .before .before .before .args .s .now) 41 41 (c .before .before .before .before .before .before .args .p) (tokens.due-stood (dueAt (c .before .before .before .before .before .before .args .s .now) 41 41 (c .before .before .before .before .before .before .args .p)) (sym (c .before .before .due-at .ensures) ∙ c .enum-told .given .1)) in let i = d .inside in let M = c .before .before .before .before .before .before .pre .0 in let R = c .before .before .before .before .before .before .pre .1 in omega arith
 
--- src/lib.rt:143:9
 arguments-returns : (t : ℕ) → arguments-lts.Need-returns (
   due-at-reads.Asked,
   due-at-reads.Learnt,
@@ -106,7 +100,6 @@ arguments-returns : (t : ℕ) → arguments-lts.Need-returns (
 ) (arguments-at t) arguments.Post
 arguments-returns t c = steps.reads-bad encodes (c .before .before .before .before .before .before .before .args .o) (argsAt (exprAt (c .before .before .before .before .before .before .before .args .d) (c .before .before .before .before .before .before .before .args .s .now)) (c .before .before .before .before .before .before .before .args .s .now) (c .before .before .before .before .before .before .before .args .left) (c .before .before .before .before .before .before .before .args .c) (c .before .before .before .before .before .before .before .args .p) (c .before .before .before .before .before .before .before .args .n)) 20 (c .before .w .given .0 .0) (c .before .before .before .before .before .before .before .args .out .now) (c .before .before .before .before .before .before .before .args .out .now) (calls.args-last (exprAt (c .before .before .before .before .before .before .before .args .d) (c .before .before .before .before .before .before .before .args .s .now)) (c .before .before .before .before .before .before .before .args .s .now) (c .before .before .before .before .before .before .before .args .left) (c .before .before .before .before .before .before .before .args .c) (c .before .before .before .before .before .before .before .args .p) (c .before .before .before .before .before .before .before .args .n) (omega (arith, c .before .before .before .before .if1 .taken)) ∙ ways.args-open (exprAt (c .before .before .before .before .before .before .before .args .d) (c .before .before .before .before .before .before .before .args .s .now)) (c .before .before .before .before .before .before .before .args .s .now) (c .before .before .before .before .before .before .before .args .c) (c .before .before .before .before .before .before .before .args .p) (c .before .before .before .before .before .before .before .args .n) (c .before .w .given .0 .0) (tokens.due-missed (dueAt (c .before .before .before .before .before .before .before .args .s .now) 41 41 (c .before .before .before .before .before .before .before .args .p)) (c .before .w .given .0 .0) (sym (c .before .before .before .due-at .ensures) ∙ c .before .w .given .1)))
 
--- src/lib.rt:143:9
 arguments-returns-2 : (t : ℕ) → arguments-lts.Need-returns-2 (
   due-at-reads.Asked,
   due-at-reads.Learnt,
@@ -117,7 +110,6 @@ arguments-returns-2 : (t : ℕ) → arguments-lts.Need-returns-2 (
 ) (arguments-at t) arguments.Post
 arguments-returns-2 t c = steps.args-none (c .before .before .before .before .before .before .args .o) (argsAt (exprAt (c .before .before .before .before .before .before .args .d) (c .before .before .before .before .before .before .args .s .now)) (c .before .before .before .before .before .before .args .s .now) (c .before .before .before .before .before .before .args .left) (c .before .before .before .before .before .before .args .c) (c .before .before .before .before .before .before .args .p) (c .before .before .before .before .before .before .args .n)) ((c .before .before .before .before .before .before .args .p) + 1) (c .before .before .before .before .before .before .args .n) (c .before .before .before .before .before .before .args .out .now) (calls.args-last (exprAt (c .before .before .before .before .before .before .args .d) (c .before .before .before .before .before .before .args .s .now)) (c .before .before .before .before .before .before .args .s .now) (c .before .before .before .before .before .before .args .left) (c .before .before .before .before .before .before .args .c) (c .before .before .before .before .before .before .args .p) (c .before .before .before .before .before .before .args .n) (omega (arith, c .before .before .before .if1 .taken)) ∙ ways.args-closed (exprAt (c .before .before .before .before .before .before .args .d) (c .before .before .before .before .before .before .args .s .now)) (c .before .before .before .before .before .before .args .s .now) (c .before .before .before .before .before .before .args .c) (c .before .before .before .before .before .before .args .p) (c .before .before .before .before .before .before .args .n) (tokens.due-stood (dueAt (c .before .before .before .before .before .before .args .s .now) 41 41 (c .before .before .before .before .before .before .args .p)) (sym (c .before .before .due-at .ensures) ∙ c .enum-told .given .1)))
 
--- src/lib.rt:148:11
 arguments-due-at-requires-2 : (t : ℕ) → arguments-lts.Need-due-at-requires-2 (
   due-at-reads.Asked,
   due-at-reads.Learnt,
@@ -128,7 +120,6 @@ arguments-due-at-requires-2 : (t : ℕ) → arguments-lts.Need-due-at-requires-2
 ) (arguments-at t) arguments.Post
 arguments-due-at-requires-2 t c κs = search needs
 
--- src/lib.rt:149:22
 arguments-enum-known-w-2 : (t : ℕ) → arguments-lts.Need-enum-known-w-2 (
   due-at-reads.Asked,
   due-at-reads.Learnt,
@@ -139,7 +130,6 @@ arguments-enum-known-w-2 : (t : ℕ) → arguments-lts.Need-enum-known-w-2 (
 ) (arguments-at t) arguments.Post
 arguments-enum-known-w-2 t c = search needs
 
--- src/lib.rt:150:44
 arguments-enum-told-2 : (t : ℕ) → arguments-lts.Need-enum-told-2 (
   due-at-reads.Asked,
   due-at-reads.Learnt,
@@ -150,7 +140,6 @@ arguments-enum-told-2 : (t : ℕ) → arguments-lts.Need-enum-told-2 (
 ) (arguments-at t) arguments.Post
 arguments-enum-told-2 t c = search needs
 
--- src/lib.rt:150:44
 arguments-add-expression : (t : ℕ) → arguments-lts.Need-add-expression (
   due-at-reads.Asked,
   due-at-reads.Learnt,
@@ -161,7 +150,6 @@ arguments-add-expression : (t : ℕ) → arguments-lts.Need-add-expression (
 ) (arguments-at t) arguments.Post
 arguments-add-expression t c = let d = due-is (c .before .before .before .before .before .before .args .s .now) (c .before .before .before .before .before .before .args .c) (c .before .before .before .before .before .before .args .c) (c .before .before .before .before .before .before .args .p) (tokens.due-stood (dueAt (c .before .before .before .before .before .before .args .s .now) (c .before .before .before .before .before .before .args .c) (c .before .before .before .before .before .before .args .c) (c .before .before .before .before .before .before .args .p)) (sym (c .before .before .due-at2 .ensures) ∙ c .enum-told2 .given .1)) in let i = d .inside in let M = c .before .before .before .before .before .before .pre .0 in let R = c .before .before .before .before .before .before .pre .1 in omega arith
 
--- src/lib.rt:150:30
 arguments-expression-requires : (t : ℕ) → arguments-lts.Need-expression-requires (
   due-at-reads.Asked,
   due-at-reads.Learnt,
@@ -172,7 +160,6 @@ arguments-expression-requires : (t : ℕ) → arguments-lts.Need-expression-requ
 ) (arguments-at t) arguments.Post
 arguments-expression-requires t c κs = let d = due-is (c .before .before .before .before .before .before .before .args .s .now) (c .before .before .before .before .before .before .before .args .c) (c .before .before .before .before .before .before .before .args .c) (c .before .before .before .before .before .before .before .args .p) (tokens.due-stood (dueAt (c .before .before .before .before .before .before .before .args .s .now) (c .before .before .before .before .before .before .before .args .c) (c .before .before .before .before .before .before .before .args .c) (c .before .before .before .before .before .before .before .args .p)) (sym (c .before .before .before .due-at2 .ensures) ∙ c .before .enum-told2 .given .1)) in let i = d .inside in let M = c .before .before .before .before .before .before .before .pre .0 in let R = c .before .before .before .before .before .before .before .pre .1 in omega arith
 
--- src/lib.rt:151:22
 arguments-enum-known-i : (t : ℕ) → arguments-lts.Need-enum-known-i (
   due-at-reads.Asked,
   due-at-reads.Learnt,
@@ -183,7 +170,6 @@ arguments-enum-known-i : (t : ℕ) → arguments-lts.Need-enum-known-i (
 ) (arguments-at t) arguments.Post
 arguments-enum-known-i t c = search needs
 
--- src/lib.rt:152:24
 arguments-enum-known-q : (t : ℕ) → arguments-lts.Need-enum-known-q (
   due-at-reads.Asked,
   due-at-reads.Learnt,
@@ -194,7 +180,6 @@ arguments-enum-known-q : (t : ℕ) → arguments-lts.Need-enum-known-q (
 ) (arguments-at t) arguments.Post
 arguments-enum-known-q t c = search needs
 
--- src/lib.rt:152:64
 arguments-sub-arguments : (t : ℕ) → arguments-lts.Need-sub-arguments (
   due-at-reads.Asked,
   due-at-reads.Learnt,
@@ -205,7 +190,6 @@ arguments-sub-arguments : (t : ℕ) → arguments-lts.Need-sub-arguments (
 ) (arguments-at t) arguments.Post
 arguments-sub-arguments t c = omega (arith, c .before .before .before .before .before .before .before .before .before .before .if1 .left)
 
--- src/lib.rt:152:36
 arguments-arguments-requires : (t : ℕ) → arguments-lts.Need-arguments-requires (
   due-at-reads.Asked,
   due-at-reads.Learnt,
@@ -216,7 +200,6 @@ arguments-arguments-requires : (t : ℕ) → arguments-lts.Need-arguments-requir
 ) (arguments-at t) arguments.Post
 arguments-arguments-requires t c κs = let G = (steps.got-of encode (c .before .before .before .before .before .before .before .before .before .before .before .before .before .before .args .o) ((exprAt (c .before .before .before .before .before .before .before .before .before .before .before .before .before .before .args .d) (c .before .before .before .before .before .before .before .before .before .before .before .before .before .before .args .s .now)) ((c .before .before .before .before .before .before .before .before .before .before .before .before .before .before .args .p) + 1) (c .before .before .before .before .before .before .before .before .before .before .before .before .before .before .args .n)) (c .before .before .before .before .before .before .expression .result) (c .before .before .q .given .0 .0) (c .before .before .q .given .0 .1 .0) (c .before .before .q .given .0 .1 .1 .0) (c .before .before .before .before .before .before .before .before .before .before .before .before .before .before .args .out .now) (c .before .before .before .before .before .before .expression .last .1 .1 .1 .1 .0) (c .before .before .before .before .before .before .expression .ensures) (c .before .before .q .given .1)) in let T = calls.expr-sized (c .before .before .before .before .before .before .before .before .before .before .before .before .before .before .args .d) (c .before .before .before .before .before .before .before .before .before .before .before .before .before .before .args .s .now) ((c .before .before .before .before .before .before .before .before .before .before .before .before .before .before .args .p) + 1) (c .before .before .before .before .before .before .before .before .before .before .before .before .before .before .args .n) (G .tree) (c .before .before .q .given .0 .0) (c .before .before .q .given .0 .1 .0) (G .is) in let E = G .end in let T1 = T .more in let T2 = T .most in let T3 = T .size in let K = c .before .before .before .before .before .before .expression .kept .1 .1 .1 .1 .0 in let M = c .before .before .before .before .before .before .before .before .before .before .before .before .before .before .pre .0 in let R = c .before .before .before .before .before .before .before .before .before .before .before .before .before .before .pre .1 in omega arith
 
--- src/lib.rt:129:1
 arguments-returns-3 : (t : ℕ) → arguments-lts.Need-returns-3 (
   due-at-reads.Asked,
   due-at-reads.Learnt,
@@ -227,7 +210,6 @@ arguments-returns-3 : (t : ℕ) → arguments-lts.Need-returns-3 (
 ) (arguments-at t) arguments.Post
 arguments-returns-3 t c = steps.reads-bad encodes (c .before .before .before .before .before .before .before .args .o) (argsAt (exprAt (c .before .before .before .before .before .before .before .args .d) (c .before .before .before .before .before .before .before .args .s .now)) (c .before .before .before .before .before .before .before .args .s .now) (c .before .before .before .before .before .before .before .args .left) (c .before .before .before .before .before .before .before .args .c) (c .before .before .before .before .before .before .before .args .p) (c .before .before .before .before .before .before .before .args .n)) 20 (c .before .w2 .given .0 .0) (c .before .before .before .before .before .before .before .args .out .now) (c .before .before .before .before .before .before .before .args .out .now) (calls.args-absent (exprAt (c .before .before .before .before .before .before .before .args .d) (c .before .before .before .before .before .before .before .args .s .now)) (c .before .before .before .before .before .before .before .args .s .now) (c .before .before .before .before .before .before .before .args .left) (c .before .before .before .before .before .before .before .args .c) (c .before .before .before .before .before .before .before .args .p) (c .before .before .before .before .before .before .before .args .n) (c .before .w2 .given .0 .0) (omega (arith, c .before .before .before .before .if1 .left)) (tokens.due-missed (dueAt (c .before .before .before .before .before .before .before .args .s .now) (c .before .before .before .before .before .before .before .args .c) (c .before .before .before .before .before .before .before .args .c) (c .before .before .before .before .before .before .before .args .p)) (c .before .w2 .given .0 .0) (sym (c .before .before .before .due-at2 .ensures) ∙ c .before .w2 .given .1)))
 
--- src/lib.rt:129:1
 arguments-same-length : (t : ℕ) → arguments-lts.Need-same-length (
   due-at-reads.Asked,
   due-at-reads.Learnt,
@@ -238,7 +220,6 @@ arguments-same-length : (t : ℕ) → arguments-lts.Need-same-length (
 ) (arguments-at t) arguments.Post
 arguments-same-length t c = search needs
 
--- src/lib.rt:129:1
 arguments-returns-4 : (t : ℕ) → arguments-lts.Need-returns-4 (
   due-at-reads.Asked,
   due-at-reads.Learnt,
@@ -249,7 +230,6 @@ arguments-returns-4 : (t : ℕ) → arguments-lts.Need-returns-4 (
 ) (arguments-at t) arguments.Post
 arguments-returns-4 t c = steps.reads-bad encodes (c .before .before .before .before .before .before .before .before .before .before .before .before .before .args .o) (argsAt (exprAt (c .before .before .before .before .before .before .before .before .before .before .before .before .before .args .d) (c .before .before .before .before .before .before .before .before .before .before .before .before .before .args .s .now)) (c .before .before .before .before .before .before .before .before .before .before .before .before .before .args .s .now) (c .before .before .before .before .before .before .before .before .before .before .before .before .before .args .left) (c .before .before .before .before .before .before .before .before .before .before .before .before .before .args .c) (c .before .before .before .before .before .before .before .before .before .before .before .before .before .args .p) (c .before .before .before .before .before .before .before .before .before .before .before .before .before .args .n)) (c .before .i .given .0 .0) (c .before .i .given .0 .1 .0) (c .before .before .before .before .before .before .before .before .before .before .before .before .before .args .out .now) (c .before .before .before .before .before .expression .last .1 .1 .1 .1 .0) (calls.args-some (exprAt (c .before .before .before .before .before .before .before .before .before .before .before .before .before .args .d) (c .before .before .before .before .before .before .before .before .before .before .before .before .before .args .s .now)) (c .before .before .before .before .before .before .before .before .before .before .before .before .before .args .s .now) (c .before .before .before .before .before .before .before .before .before .before .before .before .before .args .left) (c .before .before .before .before .before .before .before .before .before .before .before .before .before .args .c) (c .before .before .before .before .before .before .before .before .before .before .before .before .before .args .p) (c .before .before .before .before .before .before .before .before .before .before .before .before .before .args .n) (c .before .i .given .0 .0) (c .before .i .given .0 .1 .0) (omega (arith, c .before .before .before .before .before .before .before .before .before .before .if1 .left)) (tokens.due-stood (dueAt (c .before .before .before .before .before .before .before .before .before .before .before .before .before .args .s .now) (c .before .before .before .before .before .before .before .before .before .before .before .before .before .args .c) (c .before .before .before .before .before .before .before .before .before .before .before .before .before .args .c) (c .before .before .before .before .before .before .before .before .before .before .before .before .before .args .p)) (sym (c .before .before .before .before .before .before .before .before .before .due-at2 .ensures) ∙ c .before .before .before .before .before .before .before .enum-told2 .given .1)) (steps.bad-of encode (c .before .before .before .before .before .before .before .before .before .before .before .before .before .args .o) ((exprAt (c .before .before .before .before .before .before .before .before .before .before .before .before .before .args .d) (c .before .before .before .before .before .before .before .before .before .before .before .before .before .args .s .now)) ((c .before .before .before .before .before .before .before .before .before .before .before .before .before .args .p) + 1) (c .before .before .before .before .before .before .before .before .before .before .before .before .before .args .n)) (c .before .before .before .before .before .expression .result) (c .before .i .given .0 .0) (c .before .i .given .0 .1 .0) (c .before .before .before .before .before .before .before .before .before .before .before .before .before .args .out .now) (c .before .before .before .before .before .expression .last .1 .1 .1 .1 .0) (c .before .before .before .before .before .expression .ensures) (c .before .i .given .1)))
 
--- src/lib.rt:129:1
 arguments-same-length-2 : (t : ℕ) → arguments-lts.Need-same-length-2 (
   due-at-reads.Asked,
   due-at-reads.Learnt,
@@ -260,7 +240,6 @@ arguments-same-length-2 : (t : ℕ) → arguments-lts.Need-same-length-2 (
 ) (arguments-at t) arguments.Post
 arguments-same-length-2 t c = search needs
 
--- src/lib.rt:129:1
 arguments-returns-5 : (t : ℕ) → arguments-lts.Need-returns-5 (
   due-at-reads.Asked,
   due-at-reads.Learnt,
@@ -271,7 +250,6 @@ arguments-returns-5 : (t : ℕ) → arguments-lts.Need-returns-5 (
 ) (arguments-at t) arguments.Post
 arguments-returns-5 t c = let G = (steps.got-of encode (c .before .before .before .before .before .before .before .before .before .before .before .before .before .before .before .before .before .args .o) ((exprAt (c .before .before .before .before .before .before .before .before .before .before .before .before .before .before .before .before .before .args .d) (c .before .before .before .before .before .before .before .before .before .before .before .before .before .before .before .before .before .args .s .now)) ((c .before .before .before .before .before .before .before .before .before .before .before .before .before .before .before .before .before .args .p) + 1) (c .before .before .before .before .before .before .before .before .before .before .before .before .before .before .before .before .before .args .n)) (c .before .before .before .before .before .before .before .before .before .expression .result) (c .before .before .before .before .before .q .given .0 .0) (c .before .before .before .before .before .q .given .0 .1 .0) (c .before .before .before .before .before .q .given .0 .1 .1 .0) (c .before .before .before .before .before .before .before .before .before .before .before .before .before .before .before .before .before .args .out .now) (c .before .before .before .before .before .before .before .before .before .expression .last .1 .1 .1 .1 .0) (c .before .before .before .before .before .before .before .before .before .expression .ensures) (c .before .before .before .before .before .q .given .1)) in let T = calls.expr-sized (c .before .before .before .before .before .before .before .before .before .before .before .before .before .before .before .before .before .args .d) (c .before .before .before .before .before .before .before .before .before .before .before .before .before .before .before .before .before .args .s .now) ((c .before .before .before .before .before .before .before .before .before .before .before .before .before .before .before .before .before .args .p) + 1) (c .before .before .before .before .before .before .before .before .before .before .before .before .before .before .before .before .before .args .n) (G .tree) (c .before .before .before .before .before .q .given .0 .0) (c .before .before .before .before .before .q .given .0 .1 .0) (G .is) in let E = G .end in let T1 = T .more in let T2 = T .most in let T3 = T .size in let M = c .before .before .before .before .before .before .before .before .before .before .before .before .before .before .before .before .before .pre .0 in let R = c .before .before .before .before .before .before .before .before .before .before .before .before .before .before .before .before .before .pre .1 in steps.reads-as (c .before .before .before .before .before .before .before .before .before .before .before .before .before .before .before .before .before .args .o) _ _ (c .before .before .arguments .result) (c .before .before .before .before .before .before .before .before .before .before .before .before .before .before .before .before .before .args .out .now) (c .before .before .arguments .last .1 .1 .1 .1 .1 .1 .0) (ap (inRecords encodes) (calls.args-on (exprAt (c .before .before .before .before .before .before .before .before .before .before .before .before .before .before .before .before .before .args .d) (c .before .before .before .before .before .before .before .before .before .before .before .before .before .before .before .before .before .args .s .now)) (c .before .before .before .before .before .before .before .before .before .before .before .before .before .before .before .before .before .args .s .now) (c .before .before .before .before .before .before .before .before .before .before .before .before .before .before .before .before .before .args .left) (c .before .before .before .before .before .before .before .before .before .before .before .before .before .before .before .before .before .args .c) (c .before .before .before .before .before .before .before .before .before .before .before .before .before .before .before .before .before .args .p) (c .before .before .before .before .before .before .before .before .before .before .before .before .before .before .before .before .before .args .n) (G .tree) (c .before .before .before .before .before .q .given .0 .0) (c .before .before .before .before .before .q .given .0 .1 .0) (omega (arith, c .before .before .before .before .before .before .before .before .before .before .before .before .before .before .if1 .left)) (tokens.due-stood (dueAt (c .before .before .before .before .before .before .before .before .before .before .before .before .before .before .before .before .before .args .s .now) (c .before .before .before .before .before .before .before .before .before .before .before .before .before .before .before .before .before .args .c) (c .before .before .before .before .before .before .before .before .before .before .before .before .before .before .before .before .before .args .c) (c .before .before .before .before .before .before .before .before .before .before .before .before .before .before .before .before .before .args .p)) (sym (c .before .before .before .before .before .before .before .before .before .before .before .before .before .due-at2 .ensures) ∙ c .before .before .before .before .before .before .before .before .before .before .before .enum-told2 .given .1)) (G .is))) (steps.args-join (c .before .before .before .before .before .before .before .before .before .before .before .before .before .before .before .before .before .args .o) (c .before .before .before .before .before .q .given .0 .1 .1 .0) (G .tree) (argsAt (exprAt (c .before .before .before .before .before .before .before .before .before .before .before .before .before .before .before .before .before .args .d) (c .before .before .before .before .before .before .before .before .before .before .before .before .before .before .before .before .before .args .s .now)) (c .before .before .before .before .before .before .before .before .before .before .before .before .before .before .before .before .before .args .s .now) ((c .before .before .before .before .before .before .before .before .before .before .before .before .before .before .before .before .before .args .left) - 1) 44 (c .before .before .before .before .before .q .given .0 .0) (c .before .before .before .before .before .q .given .0 .1 .0)) (c .before .before .arguments .result) (c .before .before .before .before .before .before .before .before .before .before .before .before .before .before .before .before .before .args .out .now) (c .before .before .before .before .before .before .before .before .before .expression .last .1 .1 .1 .1 .0) (c .before .before .arguments .last .1 .1 .1 .1 .1 .1 .0) E (omega arith) (G .wrote) (c .before .before .arguments .ensures))
 
--- src/lib.rt:95:9
 expression-returns : (t : ℕ) → expression-lts.Need-returns (
   literal-at-reads.Asked,
   literal-at-reads.Learnt,
@@ -286,7 +264,6 @@ expression-returns : (t : ℕ) → expression-lts.Need-returns (
 ) (expression-at t) expression.Post
 expression-returns t c = steps.reads-bad encode (c .before .before .before .args .o) (exprAt (c .before .before .before .args .d) (c .before .before .before .args .s .now) (c .before .before .before .args .p) (c .before .before .before .args .n)) 22 (c .before .before .before .args .p) (c .before .before .before .args .out .now) (c .before .before .before .args .out .now) (ways.expr-deep (c .before .before .before .args .d) (c .before .before .before .args .s .now) (c .before .before .before .args .p) (c .before .before .before .args .n) (omega (arith, c .if1 .taken)))
 
--- src/lib.rt:98:9
 expression-returns-2 : (t : ℕ) → expression-lts.Need-returns-2 (
   literal-at-reads.Asked,
   literal-at-reads.Learnt,
@@ -301,7 +278,6 @@ expression-returns-2 : (t : ℕ) → expression-lts.Need-returns-2 (
 ) (expression-at t) expression.Post
 expression-returns-2 t c = steps.reads-bad encode (c .before .before .before .before .args .o) (exprAt (c .before .before .before .before .args .d) (c .before .before .before .before .args .s .now) (c .before .before .before .before .args .p) (c .before .before .before .before .args .n)) 23 (c .before .before .before .before .args .p) (c .before .before .before .before .args .out .now) (c .before .before .before .before .args .out .now) (ways.expr-many (c .before .before .before .before .args .d) (c .before .before .before .before .args .s .now) (c .before .before .before .before .args .p) (c .before .before .before .before .args .n) (omega (arith, c .before .if1 .left)) (omega (arith, c .if2 .taken)))
 
--- src/lib.rt:101:9
 expression-returns-3 : (t : ℕ) → expression-lts.Need-returns-3 (
   literal-at-reads.Asked,
   literal-at-reads.Learnt,
@@ -316,7 +292,6 @@ expression-returns-3 : (t : ℕ) → expression-lts.Need-returns-3 (
 ) (expression-at t) expression.Post
 expression-returns-3 t c = steps.reads-bad encode (c .before .before .before .before .before .args .o) (exprAt (c .before .before .before .before .before .args .d) (c .before .before .before .before .before .args .s .now) (c .before .before .before .before .before .args .p) (c .before .before .before .before .before .args .n)) 20 (length (c .before .before .before .before .before .args .s .now)) (c .before .before .before .before .before .args .out .now) (c .before .before .before .before .before .args .out .now) (ways.expr-end (c .before .before .before .before .before .args .d) (c .before .before .before .before .before .args .s .now) (c .before .before .before .before .before .args .p) (c .before .before .before .before .before .args .n) (omega (arith, c .before .before .if1 .left)) (omega (arith, c .before .if2 .left)) (c .if3 .taken))
 
--- src/lib.rt:103:13
 expression-shared-slice-read-b : (t : ℕ) → expression-lts.Need-shared-slice-read-b (
   literal-at-reads.Asked,
   literal-at-reads.Learnt,
@@ -331,7 +306,6 @@ expression-shared-slice-read-b : (t : ℕ) → expression-lts.Need-shared-slice-
 ) (expression-at t) expression.Post
 expression-shared-slice-read-b t c = search needs
 
--- src/lib.rt:105:9
 expression-literal-at-requires : (t : ℕ) → expression-lts.Need-literal-at-requires (
   literal-at-reads.Asked,
   literal-at-reads.Learnt,
@@ -346,7 +320,6 @@ expression-literal-at-requires : (t : ℕ) → expression-lts.Need-literal-at-re
 ) (expression-at t) expression.Post
 expression-literal-at-requires t c κs = let M = c .before .before .before .before .before .before .before .before .pre .0 in let R = c .before .before .before .before .before .before .before .before .pre .1 in omega arith
 
--- src/lib.rt:105:9
 expression-same-length : (t : ℕ) → expression-lts.Need-same-length (
   literal-at-reads.Asked,
   literal-at-reads.Learnt,
@@ -361,7 +334,6 @@ expression-same-length : (t : ℕ) → expression-lts.Need-same-length (
 ) (expression-at t) expression.Post
 expression-same-length t c = search needs
 
--- src/lib.rt:105:9
 expression-returns-4 : (t : ℕ) → expression-lts.Need-returns-4 (
   literal-at-reads.Asked,
   literal-at-reads.Learnt,
@@ -376,7 +348,6 @@ expression-returns-4 : (t : ℕ) → expression-lts.Need-returns-4 (
 ) (expression-at t) expression.Post
 expression-returns-4 t c = steps.reads-as (c .before .before .before .before .before .before .before .before .before .before .before .args .o) _ _ (c .before .before .literal-at .result) (c .before .before .before .before .before .before .before .before .before .before .before .args .out .now) (c .before .before .literal-at .last .1 .1 .1 .0) (ap (inRecords encode) (calls.expr-quote (c .before .before .before .before .before .before .before .before .before .before .before .args .d) (c .before .before .before .before .before .before .before .before .before .before .before .args .s .now) (c .before .before .before .before .before .before .before .before .before .before .before .args .p) (c .before .before .before .before .before .before .before .before .before .before .before .args .n) (omega (arith, c .before .before .before .before .before .before .before .before .if1 .left)) (omega (arith, c .before .before .before .before .before .before .before .if2 .left)) (c .before .before .before .before .before .before .if3 .left) (c .before .before .before .before .if4 .taken))) (c .before .before .literal-at .ensures)
 
--- src/lib.rt:108:9
 expression-name-at-requires : (t : ℕ) → expression-lts.Need-name-at-requires (
   literal-at-reads.Asked,
   literal-at-reads.Learnt,
@@ -391,7 +362,6 @@ expression-name-at-requires : (t : ℕ) → expression-lts.Need-name-at-requires
 ) (expression-at t) expression.Post
 expression-name-at-requires t c κs = let M = c .before .before .before .before .before .before .before .before .before .pre .0 in let R = c .before .before .before .before .before .before .before .before .before .pre .1 in omega arith
 
--- src/lib.rt:108:9
 expression-same-length-2 : (t : ℕ) → expression-lts.Need-same-length-2 (
   literal-at-reads.Asked,
   literal-at-reads.Learnt,
@@ -406,7 +376,6 @@ expression-same-length-2 : (t : ℕ) → expression-lts.Need-same-length-2 (
 ) (expression-at t) expression.Post
 expression-same-length-2 t c = search needs
 
--- src/lib.rt:108:9
 expression-returns-5 : (t : ℕ) → expression-lts.Need-returns-5 (
   literal-at-reads.Asked,
   literal-at-reads.Learnt,
@@ -421,7 +390,6 @@ expression-returns-5 : (t : ℕ) → expression-lts.Need-returns-5 (
 ) (expression-at t) expression.Post
 expression-returns-5 t c = steps.reads-as (c .before .before .before .before .before .before .before .before .before .before .before .before .args .o) _ _ (c .before .before .name-at .result) (c .before .before .before .before .before .before .before .before .before .before .before .before .args .out .now) (c .before .before .name-at .last .1 .1 .1 .1 .1 .0) (calls.expr-hash (c .before .before .before .before .before .before .before .before .before .before .before .before .args .d) (c .before .before .before .before .before .before .before .before .before .before .before .before .args .s .now) (c .before .before .before .before .before .before .before .before .before .before .before .before .args .p) (c .before .before .before .before .before .before .before .before .before .before .before .before .args .n) (omega (arith, c .before .before .before .before .before .before .before .before .before .if1 .left)) (omega (arith, c .before .before .before .before .before .before .before .before .if2 .left)) (c .before .before .before .before .before .before .before .if3 .left) (c .before .before .before .before .before .if4 .left) (c .before .before .before .before .if5 .taken)) (c .before .before .name-at .ensures)
 
--- src/lib.rt:111:9
 expression-name-at-requires-2 : (t : ℕ) → expression-lts.Need-name-at-requires-2 (
   literal-at-reads.Asked,
   literal-at-reads.Learnt,
@@ -436,7 +404,6 @@ expression-name-at-requires-2 : (t : ℕ) → expression-lts.Need-name-at-requir
 ) (expression-at t) expression.Post
 expression-name-at-requires-2 t c κs = let M = c .before .before .before .before .before .before .before .before .before .before .pre .0 in let R = c .before .before .before .before .before .before .before .before .before .before .pre .1 in omega arith
 
--- src/lib.rt:111:9
 expression-same-length-3 : (t : ℕ) → expression-lts.Need-same-length-3 (
   literal-at-reads.Asked,
   literal-at-reads.Learnt,
@@ -451,7 +418,6 @@ expression-same-length-3 : (t : ℕ) → expression-lts.Need-same-length-3 (
 ) (expression-at t) expression.Post
 expression-same-length-3 t c = search needs
 
--- src/lib.rt:111:9
 expression-returns-6 : (t : ℕ) → expression-lts.Need-returns-6 (
   literal-at-reads.Asked,
   literal-at-reads.Learnt,
@@ -466,7 +432,6 @@ expression-returns-6 : (t : ℕ) → expression-lts.Need-returns-6 (
 ) (expression-at t) expression.Post
 expression-returns-6 t c = steps.reads-as (c .before .before .before .before .before .before .before .before .before .before .before .before .before .args .o) _ _ (c .before .before .name-at2 .result) (c .before .before .before .before .before .before .before .before .before .before .before .before .before .args .out .now) (c .before .before .name-at2 .last .1 .1 .1 .1 .1 .0) (calls.expr-dollar (c .before .before .before .before .before .before .before .before .before .before .before .before .before .args .d) (c .before .before .before .before .before .before .before .before .before .before .before .before .before .args .s .now) (c .before .before .before .before .before .before .before .before .before .before .before .before .before .args .p) (c .before .before .before .before .before .before .before .before .before .before .before .before .before .args .n) (omega (arith, c .before .before .before .before .before .before .before .before .before .before .if1 .left)) (omega (arith, c .before .before .before .before .before .before .before .before .before .if2 .left)) (c .before .before .before .before .before .before .before .before .if3 .left) (c .before .before .before .before .before .before .if4 .left) (c .before .before .before .before .before .if5 .left) (c .before .before .before .before .if6 .taken)) (c .before .before .name-at2 .ensures)
 
--- src/lib.rt:114:9
 expression-name-at-requires-3 : (t : ℕ) → expression-lts.Need-name-at-requires-3 (
   literal-at-reads.Asked,
   literal-at-reads.Learnt,
@@ -481,7 +446,6 @@ expression-name-at-requires-3 : (t : ℕ) → expression-lts.Need-name-at-requir
 ) (expression-at t) expression.Post
 expression-name-at-requires-3 t c κs = let M = c .before .before .before .before .before .before .before .before .before .before .before .pre .0 in let R = c .before .before .before .before .before .before .before .before .before .before .before .pre .1 in omega arith
 
--- src/lib.rt:114:9
 expression-same-length-4 : (t : ℕ) → expression-lts.Need-same-length-4 (
   literal-at-reads.Asked,
   literal-at-reads.Learnt,
@@ -496,7 +460,6 @@ expression-same-length-4 : (t : ℕ) → expression-lts.Need-same-length-4 (
 ) (expression-at t) expression.Post
 expression-same-length-4 t c = search needs
 
--- src/lib.rt:114:9
 expression-returns-7 : (t : ℕ) → expression-lts.Need-returns-7 (
   literal-at-reads.Asked,
   literal-at-reads.Learnt,
@@ -511,7 +474,6 @@ expression-returns-7 : (t : ℕ) → expression-lts.Need-returns-7 (
 ) (expression-at t) expression.Post
 expression-returns-7 t c = steps.reads-as (c .before .before .before .before .before .before .before .before .before .before .before .before .before .before .args .o) _ _ (c .before .before .name-at3 .result) (c .before .before .before .before .before .before .before .before .before .before .before .before .before .before .args .out .now) (c .before .before .name-at3 .last .1 .1 .1 .1 .1 .0) (calls.expr-sign (c .before .before .before .before .before .before .before .before .before .before .before .before .before .before .args .d) (c .before .before .before .before .before .before .before .before .before .before .before .before .before .before .args .s .now) (c .before .before .before .before .before .before .before .before .before .before .before .before .before .before .args .p) (c .before .before .before .before .before .before .before .before .before .before .before .before .before .before .args .n) (omega (arith, c .before .before .before .before .before .before .before .before .before .before .before .if1 .left)) (omega (arith, c .before .before .before .before .before .before .before .before .before .before .if2 .left)) (c .before .before .before .before .before .before .before .before .before .if3 .left) (c .before .before .before .before .before .before .before .if4 .left) (c .before .before .before .before .before .before .if5 .left) (c .before .before .before .before .before .if6 .left) (c .before .before .before .before .if7 .taken)) (c .before .before .name-at3 .ensures)
 
--- src/lib.rt:116:11
 expression-head-at-requires : (t : ℕ) → expression-lts.Need-head-at-requires (
   literal-at-reads.Asked,
   literal-at-reads.Learnt,
@@ -526,7 +488,6 @@ expression-head-at-requires : (t : ℕ) → expression-lts.Need-head-at-requires
 ) (expression-at t) expression.Post
 expression-head-at-requires t c κs = search needs
 
--- src/lib.rt:117:19
 expression-enum-known-w : (t : ℕ) → expression-lts.Need-enum-known-w (
   literal-at-reads.Asked,
   literal-at-reads.Learnt,
@@ -541,7 +502,6 @@ expression-enum-known-w : (t : ℕ) → expression-lts.Need-enum-known-w (
 ) (expression-at t) expression.Post
 expression-enum-known-w t c = search needs
 
--- src/lib.rt:118:21
 expression-enum-known-k : (t : ℕ) → expression-lts.Need-enum-known-k (
   literal-at-reads.Asked,
   literal-at-reads.Learnt,
@@ -556,7 +516,6 @@ expression-enum-known-k : (t : ℕ) → expression-lts.Need-enum-known-k (
 ) (expression-at t) expression.Post
 expression-enum-known-k t c = search needs
 
--- src/lib.rt:118:55
 expression-sub-arguments : (t : ℕ) → expression-lts.Need-sub-arguments (
   literal-at-reads.Asked,
   literal-at-reads.Learnt,
@@ -571,7 +530,6 @@ expression-sub-arguments : (t : ℕ) → expression-lts.Need-sub-arguments (
 ) (expression-at t) expression.Post
 expression-sub-arguments t c = omega (arith, c .before .before .before .before .before .before .before .before .before .before .before .if1 .left)
 
--- src/lib.rt:118:62
 expression-add-arguments : (t : ℕ) → expression-lts.Need-add-arguments (
   literal-at-reads.Asked,
   literal-at-reads.Learnt,
@@ -586,7 +544,6 @@ expression-add-arguments : (t : ℕ) → expression-lts.Need-add-arguments (
 ) (expression-at t) expression.Post
 expression-add-arguments t c = omega arith
 
--- src/lib.rt:118:83
 expression-add-arguments-2 : (t : ℕ) → expression-lts.Need-add-arguments-2 (
   literal-at-reads.Asked,
   literal-at-reads.Learnt,
@@ -601,7 +558,6 @@ expression-add-arguments-2 : (t : ℕ) → expression-lts.Need-add-arguments-2 (
 ) (expression-at t) expression.Post
 expression-add-arguments-2 t c = let M = c .before .before .before .before .before .before .before .before .before .before .before .before .before .before .before .pre .0 in let R = c .before .before .before .before .before .before .before .before .before .before .before .before .before .before .before .pre .1 in let B = (head-opened (c .before .before .before .before .before .before .before .before .before .before .before .before .before .before .before .args .s .now) (c .before .before .before .before .before .before .before .before .before .before .before .before .before .before .before .args .p) (c .before .before .k .given .0 .0) (c .before .before .k .given .0 .1 .0) (c .before .before .k .given .0 .1 .1 .0) (omega arith) (sym (c .before .before .before .before .head-at .ensures) ∙ c .before .before .k .given .1)) in let B1 = B .far in let B2 = B .within in let B3 = B .kind in omega arith
 
--- src/lib.rt:118:39
 expression-arguments-requires : (t : ℕ) → expression-lts.Need-arguments-requires (
   literal-at-reads.Asked,
   literal-at-reads.Learnt,
@@ -616,7 +572,6 @@ expression-arguments-requires : (t : ℕ) → expression-lts.Need-arguments-requ
 ) (expression-at t) expression.Post
 expression-arguments-requires t c κs = let M = c .before .before .before .before .before .before .before .before .before .before .before .before .before .before .before .pre .0 in let R = c .before .before .before .before .before .before .before .before .before .before .before .before .before .before .before .pre .1 in let B = (head-opened (c .before .before .before .before .before .before .before .before .before .before .before .before .before .before .before .args .s .now) (c .before .before .before .before .before .before .before .before .before .before .before .before .before .before .before .args .p) (c .before .before .k .given .0 .0) (c .before .before .k .given .0 .1 .0) (c .before .before .k .given .0 .1 .1 .0) (omega arith) (sym (c .before .before .before .before .head-at .ensures) ∙ c .before .before .k .given .1)) in let B1 = B .far in let B2 = B .within in let B3 = B .kind in omega arith
 
--- src/lib.rt:119:22
 expression-enum-known-i : (t : ℕ) → expression-lts.Need-enum-known-i (
   literal-at-reads.Asked,
   literal-at-reads.Learnt,
@@ -631,7 +586,6 @@ expression-enum-known-i : (t : ℕ) → expression-lts.Need-enum-known-i (
 ) (expression-at t) expression.Post
 expression-enum-known-i t c = search needs
 
--- src/lib.rt:120:24
 expression-enum-known-u : (t : ℕ) → expression-lts.Need-enum-known-u (
   literal-at-reads.Asked,
   literal-at-reads.Learnt,
@@ -646,7 +600,6 @@ expression-enum-known-u : (t : ℕ) → expression-lts.Need-enum-known-u (
 ) (expression-at t) expression.Post
 expression-enum-known-u t c = search needs
 
--- src/lib.rt:121:34
 expression-sub-put-head : (t : ℕ) → expression-lts.Need-sub-put-head (
   literal-at-reads.Asked,
   literal-at-reads.Learnt,
@@ -661,7 +614,6 @@ expression-sub-put-head : (t : ℕ) → expression-lts.Need-sub-put-head (
 ) (expression-at t) expression.Post
 expression-sub-put-head t c = let G = (steps.got-of encodes ((c .before .before .before .before .before .before .before .before .before .before .before .before .before .before .before .before .before .before .before .before .before .before .args .o) + 4) (argsAt (exprAt ((c .before .before .before .before .before .before .before .before .before .before .before .before .before .before .before .before .before .before .before .before .before .before .args .d) - 1) (c .before .before .before .before .before .before .before .before .before .before .before .before .before .before .before .before .before .before .before .before .before .before .args .s .now)) (c .before .before .before .before .before .before .before .before .before .before .before .before .before .before .before .before .before .before .before .before .before .before .args .s .now) (c .before .before .before .before .before .before .before .before .before .k .given .0 .1 .0) 40 (c .before .before .before .before .before .before .before .before .before .k .given .0 .1 .1 .0) ((c .before .before .before .before .before .before .before .before .before .before .before .before .before .before .before .before .before .before .before .before .before .before .args .n) + 1)) (c .before .before .before .before .before .before .arguments .result) (c .before .before .u .given .0 .0) (c .before .before .u .given .0 .1 .0) (c .before .before .u .given .0 .1 .1 .0) (c .before .before .before .before .before .before .before .before .before .before .before .before .before .before .before .before .before .before .before .before .before .before .args .out .now) (c .before .before .before .before .before .before .arguments .last .1 .1 .1 .1 .1 .1 .0) (c .before .before .before .before .before .before .arguments .ensures) (c .before .before .u .given .1)) in let E = G .end in let T = calls.args-sized ((c .before .before .before .before .before .before .before .before .before .before .before .before .before .before .before .before .before .before .before .before .before .before .args .d) - 1) (c .before .before .before .before .before .before .before .before .before .before .before .before .before .before .before .before .before .before .before .before .before .before .args .s .now) (c .before .before .before .before .before .before .before .before .before .k .given .0 .1 .0) 40 (c .before .before .before .before .before .before .before .before .before .k .given .0 .1 .1 .0) ((c .before .before .before .before .before .before .before .before .before .before .before .before .before .before .before .before .before .before .before .before .before .before .args .n) + 1) (G .tree) (c .before .before .u .given .0 .0) (c .before .before .u .given .0 .1 .0) (G .is) in let T1 = T .size in let K = c .before .before .before .before .before .before .arguments .kept .1 .1 .1 .1 .1 .1 .0 in omega arith
 
--- src/lib.rt:121:34
 expression-sub-put-head-2 : (t : ℕ) → expression-lts.Need-sub-put-head-2 (
   literal-at-reads.Asked,
   literal-at-reads.Learnt,
@@ -676,7 +628,6 @@ expression-sub-put-head-2 : (t : ℕ) → expression-lts.Need-sub-put-head-2 (
 ) (expression-at t) expression.Post
 expression-sub-put-head-2 t c = let G = (steps.got-of encodes ((c .before .before .before .before .before .before .before .before .before .before .before .before .before .before .before .before .before .before .before .before .before .before .args .o) + 4) (argsAt (exprAt ((c .before .before .before .before .before .before .before .before .before .before .before .before .before .before .before .before .before .before .before .before .before .before .args .d) - 1) (c .before .before .before .before .before .before .before .before .before .before .before .before .before .before .before .before .before .before .before .before .before .before .args .s .now)) (c .before .before .before .before .before .before .before .before .before .before .before .before .before .before .before .before .before .before .before .before .before .before .args .s .now) (c .before .before .before .before .before .before .before .before .before .k .given .0 .1 .0) 40 (c .before .before .before .before .before .before .before .before .before .k .given .0 .1 .1 .0) ((c .before .before .before .before .before .before .before .before .before .before .before .before .before .before .before .before .before .before .before .before .before .before .args .n) + 1)) (c .before .before .before .before .before .before .arguments .result) (c .before .before .u .given .0 .0) (c .before .before .u .given .0 .1 .0) (c .before .before .u .given .0 .1 .1 .0) (c .before .before .before .before .before .before .before .before .before .before .before .before .before .before .before .before .before .before .before .before .before .before .args .out .now) (c .before .before .before .before .before .before .arguments .last .1 .1 .1 .1 .1 .1 .0) (c .before .before .before .before .before .before .arguments .ensures) (c .before .before .u .given .1)) in let E = G .end in let T = calls.args-sized ((c .before .before .before .before .before .before .before .before .before .before .before .before .before .before .before .before .before .before .before .before .before .before .args .d) - 1) (c .before .before .before .before .before .before .before .before .before .before .before .before .before .before .before .before .before .before .before .before .before .before .args .s .now) (c .before .before .before .before .before .before .before .before .before .k .given .0 .1 .0) 40 (c .before .before .before .before .before .before .before .before .before .k .given .0 .1 .1 .0) ((c .before .before .before .before .before .before .before .before .before .before .before .before .before .before .before .before .before .before .before .before .before .before .args .n) + 1) (G .tree) (c .before .before .u .given .0 .0) (c .before .before .u .given .0 .1 .0) (G .is) in let T1 = T .size in let K = c .before .before .before .before .before .before .arguments .kept .1 .1 .1 .1 .1 .1 .0 in omega arith
 
--- src/lib.rt:121:17
 expression-put-head-requires : (t : ℕ) → expression-lts.Need-put-head-requires (
   literal-at-reads.Asked,
   literal-at-reads.Learnt,
@@ -691,7 +642,6 @@ expression-put-head-requires : (t : ℕ) → expression-lts.Need-put-head-requir
 ) (expression-at t) expression.Post
 expression-put-head-requires t c κs = let M = c .before .before .before .before .before .before .before .before .before .before .before .before .before .before .before .before .before .before .before .before .before .before .pre .0 in let R = c .before .before .before .before .before .before .before .before .before .before .before .before .before .before .before .before .before .before .before .before .before .before .pre .1 in let B = (head-opened (c .before .before .before .before .before .before .before .before .before .before .before .before .before .before .before .before .before .before .before .before .before .before .args .s .now) (c .before .before .before .before .before .before .before .before .before .before .before .before .before .before .before .before .before .before .before .before .before .before .args .p) (c .before .before .before .before .before .before .before .before .before .k .given .0 .0) (c .before .before .before .before .before .before .before .before .before .k .given .0 .1 .0) (c .before .before .before .before .before .before .before .before .before .k .given .0 .1 .1 .0) (omega arith) (sym (c .before .before .before .before .before .before .before .before .before .before .before .head-at .ensures) ∙ c .before .before .before .before .before .before .before .before .before .k .given .1)) in let B1 = B .far in let B2 = B .within in let B3 = B .kind in let G = (steps.got-of encodes ((c .before .before .before .before .before .before .before .before .before .before .before .before .before .before .before .before .before .before .before .before .before .before .args .o) + 4) (argsAt (exprAt ((c .before .before .before .before .before .before .before .before .before .before .before .before .before .before .before .before .before .before .before .before .before .before .args .d) - 1) (c .before .before .before .before .before .before .before .before .before .before .before .before .before .before .before .before .before .before .before .before .before .before .args .s .now)) (c .before .before .before .before .before .before .before .before .before .before .before .before .before .before .before .before .before .before .before .before .before .before .args .s .now) (c .before .before .before .before .before .before .before .before .before .k .given .0 .1 .0) 40 (c .before .before .before .before .before .before .before .before .before .k .given .0 .1 .1 .0) ((c .before .before .before .before .before .before .before .before .before .before .before .before .before .before .before .before .before .before .before .before .before .before .args .n) + 1)) (c .before .before .before .before .before .before .arguments .result) (c .before .before .u .given .0 .0) (c .before .before .u .given .0 .1 .0) (c .before .before .u .given .0 .1 .1 .0) (c .before .before .before .before .before .before .before .before .before .before .before .before .before .before .before .before .before .before .before .before .before .before .args .out .now) (c .before .before .before .before .before .before .arguments .last .1 .1 .1 .1 .1 .1 .0) (c .before .before .before .before .before .before .arguments .ensures) (c .before .before .u .given .1)) in let E = G .end in let T = calls.args-sized ((c .before .before .before .before .before .before .before .before .before .before .before .before .before .before .before .before .before .before .before .before .before .before .args .d) - 1) (c .before .before .before .before .before .before .before .before .before .before .before .before .before .before .before .before .before .before .before .before .before .before .args .s .now) (c .before .before .before .before .before .before .before .before .before .k .given .0 .1 .0) 40 (c .before .before .before .before .before .before .before .before .before .k .given .0 .1 .1 .0) ((c .before .before .before .before .before .before .before .before .before .before .before .before .before .before .before .before .before .before .before .before .before .before .args .n) + 1) (G .tree) (c .before .before .u .given .0 .0) (c .before .before .u .given .0 .1 .0) (G .is) in let T1 = T .size in let K = c .before .before .before .before .before .before .arguments .kept .1 .1 .1 .1 .1 .1 .0 in omega arith
 
--- src/lib.rt:90:1
 expression-returns-8 : (t : ℕ) → expression-lts.Need-returns-8 (
   literal-at-reads.Asked,
   literal-at-reads.Learnt,
@@ -706,7 +656,6 @@ expression-returns-8 : (t : ℕ) → expression-lts.Need-returns-8 (
 ) (expression-at t) expression.Post
 expression-returns-8 t c = steps.reads-bad encode (c .before .before .before .before .before .before .before .before .before .before .before .before .before .before .args .o) (exprAt (c .before .before .before .before .before .before .before .before .before .before .before .before .before .before .args .d) (c .before .before .before .before .before .before .before .before .before .before .before .before .before .before .args .s .now) (c .before .before .before .before .before .before .before .before .before .before .before .before .before .before .args .p) (c .before .before .before .before .before .before .before .before .before .before .before .before .before .before .args .n)) 20 (c .before .w .given .0 .0) (c .before .before .before .before .before .before .before .before .before .before .before .before .before .before .args .out .now) (c .before .before .before .before .before .before .before .before .before .before .before .before .before .before .args .out .now) (calls.call-not (c .before .before .before .before .before .before .before .before .before .before .before .before .before .before .args .d) (c .before .before .before .before .before .before .before .before .before .before .before .before .before .before .args .s .now) (c .before .before .before .before .before .before .before .before .before .before .before .before .before .before .args .p) (c .before .before .before .before .before .before .before .before .before .before .before .before .before .before .args .n) (c .before .w .given .0 .0) (calls.expr-head (c .before .before .before .before .before .before .before .before .before .before .before .before .before .before .args .d) (c .before .before .before .before .before .before .before .before .before .before .before .before .before .before .args .s .now) (c .before .before .before .before .before .before .before .before .before .before .before .before .before .before .args .p) (c .before .before .before .before .before .before .before .before .before .before .before .before .before .before .args .n) (omega (arith, c .before .before .before .before .before .before .before .before .before .before .before .if1 .left)) (omega (arith, c .before .before .before .before .before .before .before .before .before .before .if2 .left)) (c .before .before .before .before .before .before .before .before .before .if3 .left) (c .before .before .before .before .before .before .before .if4 .left) (c .before .before .before .before .before .before .if5 .left) (c .before .before .before .before .before .if6 .left) (c .before .before .before .before .if7 .left)) (sym (c .before .before .before .head-at .ensures) ∙ c .before .w .given .1))
 
--- src/lib.rt:90:1
 expression-same-length-5 : (t : ℕ) → expression-lts.Need-same-length-5 (
   literal-at-reads.Asked,
   literal-at-reads.Learnt,
@@ -721,7 +670,6 @@ expression-same-length-5 : (t : ℕ) → expression-lts.Need-same-length-5 (
 ) (expression-at t) expression.Post
 expression-same-length-5 t c = search needs
 
--- src/lib.rt:90:1
 expression-returns-9 : (t : ℕ) → expression-lts.Need-returns-9 (
   literal-at-reads.Asked,
   literal-at-reads.Learnt,
@@ -736,7 +684,6 @@ expression-returns-9 : (t : ℕ) → expression-lts.Need-returns-9 (
 ) (expression-at t) expression.Post
 expression-returns-9 t c = steps.reads-bad encode (c .before .before .before .before .before .before .before .before .before .before .before .before .before .before .before .before .before .before .before .before .before .args .o) (exprAt (c .before .before .before .before .before .before .before .before .before .before .before .before .before .before .before .before .before .before .before .before .before .args .d) (c .before .before .before .before .before .before .before .before .before .before .before .before .before .before .before .before .before .before .before .before .before .args .s .now) (c .before .before .before .before .before .before .before .before .before .before .before .before .before .before .before .before .before .before .before .before .before .args .p) (c .before .before .before .before .before .before .before .before .before .before .before .before .before .before .before .before .before .before .before .before .before .args .n)) (c .before .i .given .0 .0) (c .before .i .given .0 .1 .0) (c .before .before .before .before .before .before .before .before .before .before .before .before .before .before .before .before .before .before .before .before .before .args .out .now) (c .before .before .before .before .before .arguments .last .1 .1 .1 .1 .1 .1 .0) (calls.call-refused (c .before .before .before .before .before .before .before .before .before .before .before .before .before .before .before .before .before .before .before .before .before .args .d) (c .before .before .before .before .before .before .before .before .before .before .before .before .before .before .before .before .before .before .before .before .before .args .s .now) (c .before .before .before .before .before .before .before .before .before .before .before .before .before .before .before .before .before .before .before .before .before .args .p) (c .before .before .before .before .before .before .before .before .before .before .before .before .before .before .before .before .before .before .before .before .before .args .n) (c .before .before .before .before .before .before .before .before .k .given .0 .0) (c .before .before .before .before .before .before .before .before .k .given .0 .1 .0) (c .before .before .before .before .before .before .before .before .k .given .0 .1 .1 .0) (c .before .i .given .0 .0) (c .before .i .given .0 .1 .0) (calls.expr-head (c .before .before .before .before .before .before .before .before .before .before .before .before .before .before .before .before .before .before .before .before .before .args .d) (c .before .before .before .before .before .before .before .before .before .before .before .before .before .before .before .before .before .before .before .before .before .args .s .now) (c .before .before .before .before .before .before .before .before .before .before .before .before .before .before .before .before .before .before .before .before .before .args .p) (c .before .before .before .before .before .before .before .before .before .before .before .before .before .before .before .before .before .before .before .before .before .args .n) (omega (arith, c .before .before .before .before .before .before .before .before .before .before .before .before .before .before .before .before .before .before .if1 .left)) (omega (arith, c .before .before .before .before .before .before .before .before .before .before .before .before .before .before .before .before .before .if2 .left)) (c .before .before .before .before .before .before .before .before .before .before .before .before .before .before .before .before .if3 .left) (c .before .before .before .before .before .before .before .before .before .before .before .before .before .before .if4 .left) (c .before .before .before .before .before .before .before .before .before .before .before .before .before .if5 .left) (c .before .before .before .before .before .before .before .before .before .before .before .before .if6 .left) (c .before .before .before .before .before .before .before .before .before .before .before .if7 .left)) (sym (c .before .before .before .before .before .before .before .before .before .before .head-at .ensures) ∙ c .before .before .before .before .before .before .before .before .k .given .1) (steps.bad-of encodes ((c .before .before .before .before .before .before .before .before .before .before .before .before .before .before .before .before .before .before .before .before .before .args .o) + 4) (argsAt (exprAt ((c .before .before .before .before .before .before .before .before .before .before .before .before .before .before .before .before .before .before .before .before .before .args .d) - 1) (c .before .before .before .before .before .before .before .before .before .before .before .before .before .before .before .before .before .before .before .before .before .args .s .now)) (c .before .before .before .before .before .before .before .before .before .before .before .before .before .before .before .before .before .before .before .before .before .args .s .now) (c .before .before .before .before .before .before .before .before .k .given .0 .1 .0) 40 (c .before .before .before .before .before .before .before .before .k .given .0 .1 .1 .0) ((c .before .before .before .before .before .before .before .before .before .before .before .before .before .before .before .before .before .before .before .before .before .args .n) + 1)) (c .before .before .before .before .before .arguments .result) (c .before .i .given .0 .0) (c .before .i .given .0 .1 .0) (c .before .before .before .before .before .before .before .before .before .before .before .before .before .before .before .before .before .before .before .before .before .args .out .now) (c .before .before .before .before .before .arguments .last .1 .1 .1 .1 .1 .1 .0) (c .before .before .before .before .before .arguments .ensures) (c .before .i .given .1)))
 
--- src/lib.rt:90:1
 expression-same-length-6 : (t : ℕ) → expression-lts.Need-same-length-6 (
   literal-at-reads.Asked,
   literal-at-reads.Learnt,
@@ -751,7 +698,6 @@ expression-same-length-6 : (t : ℕ) → expression-lts.Need-same-length-6 (
 ) (expression-at t) expression.Post
 expression-same-length-6 t c = search needs
 
--- src/lib.rt:90:1
 expression-returns-10 : (t : ℕ) → expression-lts.Need-returns-10 (
   literal-at-reads.Asked,
   literal-at-reads.Learnt,

@@ -1,22 +1,14 @@
 use borrow.Author.Needs.{needs}
-use Rattle.text_reader.proofs.Put as puts
-use Rattle.text_reader.proofs.Steps as steps
 use Rattle.text_reader.proofs.Literals as literals
 use Rattle.tokens.proofs.Laws as tokens
 use Rattle.texts.specs.Reading.{dueAt}
 use Rattle.texts.proofs.Standing.{due-is}
-use Prim.Native.Nat.{_+_, _-_, _*_, _/_, _%_, _≤_, _<_}
-use lib.ListN.{length, getD, length-set}
+use Prim.Native.Nat.{_-_}
+use lib.ListN.{length}
 use native.Mathlib.Omega.{arith}
-use mathlib.Core.Path.{_≡_, refl, sym, ap, _∙_}
+use mathlib.Core.Path.{sym, _∙_}
 use Rattle.text_reader.proofs.literal_at.Statement.{statement}
 use Rattle.text_reader.proofs.literal_at.Tie as tie
-use Rattle.text_reader.proofs.literal_at.Reads as reads
-use Rattle.text_reader.proofs.literal_at.Lts as lts
-use Rattle.text_reader.proofs.put_head.Reads as put-head-reads
-use Rattle.tokens.proofs.digit_at.Reads as digit-at-reads
-use Rattle.tokens.proofs.due_at.Reads as due-at-reads
-use Rattle.tokens.proofs.pair_at.Reads as pair-at-reads
 
 abbrev Inv-loop : tie.InvT-loop
 Inv-loop s p n out₀ o j₀ q₀ b₀ out j q b = literals.Pairing s p o out₀ j q b out
@@ -24,123 +16,93 @@ Inv-loop s p n out₀ o j₀ q₀ b₀ out j q b = literals.Pairing s p o out₀
 abbrev μ-loop : tie.MeasureT-loop
 μ-loop s p n out₀ o j₀ q₀ b₀ out j q b = length s - q
 
--- src/lib.rt:65:17
 add-q : tie.Need-add-q Inv-loop μ-loop
 add-q c = search needs
 
--- src/lib.rt:66:9
 pair-at-requires : tie.Need-pair-at-requires Inv-loop μ-loop
 pair-at-requires c κs = search needs
 
--- src/lib.rt:67:5
 loop-holds : tie.Need-loop-holds Inv-loop μ-loop
 loop-holds c = literals.pairs-none (c .before .before .before .args .s .now) (c .before .before .before .args .p) (c .before .before .before .args .o) (c .before .before .before .args .out .now) (c .pair-at .result) (c .before .before .before .pre .0) (c .pair-at .ensures)
 
--- src/lib.rt:68:26
 cast-out : tie.Need-cast-out Inv-loop μ-loop
 cast-out c = search needs
 
--- src/lib.rt:68:13
 add-out : tie.Need-add-out Inv-loop μ-loop
 add-out c = let i = literals.pair-inside (c .before .before .before .before .before .args .s .now) (c .before .before .before .before .before .args .p) (c .before .before .before .before .before .args .o) (c .before .before .before .before .before .args .out .now) (c .before .loop .j) (c .before .loop .q) (c .before .loop .b) (c .before .loop .out) (c .before .loop .inv) (c .loop-test .taken) in let pl = c .before .loop .inv .place in let lg = c .before .loop .inv .stored .long in let pre = c .before .before .before .before .before .pre in omega arith
 
--- src/lib.rt:68:13
 add-out-2 : tie.Need-add-out-2 Inv-loop μ-loop
 add-out-2 c = let i = literals.pair-inside (c .before .before .before .before .before .args .s .now) (c .before .before .before .before .before .args .p) (c .before .before .before .before .before .args .o) (c .before .before .before .before .before .args .out .now) (c .before .loop .j) (c .before .loop .q) (c .before .loop .b) (c .before .loop .out) (c .before .loop .inv) (c .loop-test .taken) in let pl = c .before .loop .inv .place in let lg = c .before .loop .inv .stored .long in let pre = c .before .before .before .before .before .pre in omega arith
 
--- src/lib.rt:68:9
 slice-write-out : tie.Need-slice-write-out Inv-loop μ-loop
 slice-write-out c = let i = literals.pair-inside (c .before .before .before .before .before .args .s .now) (c .before .before .before .before .before .args .p) (c .before .before .before .before .before .args .o) (c .before .before .before .before .before .args .out .now) (c .before .loop .j) (c .before .loop .q) (c .before .loop .b) (c .before .loop .out) (c .before .loop .inv) (c .loop-test .taken) in let pl = c .before .loop .inv .place in let lg = c .before .loop .inv .stored .long in let pre = c .before .before .before .before .before .pre in omega arith
 
--- src/lib.rt:69:9
 add-j : tie.Need-add-j Inv-loop μ-loop
 add-j c = let i = literals.pair-inside (c .before .before .before .before .before .args .s .now) (c .before .before .before .before .before .args .p) (c .before .before .before .before .before .args .o) (c .before .before .before .before .before .args .out .now) (c .before .loop .j) (c .before .loop .q) (c .before .loop .b) (c .before .loop .out) (c .before .loop .inv) (c .loop-test .taken) in let pl = c .before .loop .inv .place in let lg = c .before .loop .inv .stored .long in let pre = c .before .before .before .before .before .pre in omega arith
 
--- src/lib.rt:70:9
 add-q-2 : tie.Need-add-q-2 Inv-loop μ-loop
 add-q-2 c = let i = literals.pair-inside (c .before .before .before .before .before .args .s .now) (c .before .before .before .before .before .args .p) (c .before .before .before .before .before .args .o) (c .before .before .before .before .before .args .out .now) (c .before .loop .j) (c .before .loop .q) (c .before .loop .b) (c .before .loop .out) (c .before .loop .inv) (c .loop-test .taken) in let pl = c .before .loop .inv .place in let lg = c .before .loop .inv .stored .long in let pre = c .before .before .before .before .before .pre in omega arith
 
--- src/lib.rt:71:9
 pair-at-requires-2 : tie.Need-pair-at-requires-2 Inv-loop μ-loop
 pair-at-requires-2 c κs = search needs
 
--- src/lib.rt:67:5
 loop-less : tie.Need-loop-less Inv-loop μ-loop
 loop-less c = let i = literals.pair-inside (c .before .before .before .before .before .before .args .s .now) (c .before .before .before .before .before .before .args .p) (c .before .before .before .before .before .before .args .o) (c .before .before .before .before .before .before .args .out .now) (c .before .before .loop .j) (c .before .before .loop .q) (c .before .before .loop .b) (c .before .before .loop .out) (c .before .before .loop .inv) (c .before .loop-test .taken) in let pl = c .before .before .loop .inv .place in let lg = c .before .before .loop .inv .stored .long in let pre = c .before .before .before .before .before .before .pre in omega arith
 
--- src/lib.rt:67:5
 loop-again : tie.Need-loop-again Inv-loop μ-loop
 loop-again c = literals.pairs-more (c .before .before .before .before .before .before .args .s .now) (c .before .before .before .before .before .before .args .p) (c .before .before .before .before .before .before .args .o) (c .before .before .before .before .before .before .args .out .now) (c .before .before .loop .j) (c .before .before .loop .q) (c .before .before .loop .b) (c .pair-at2 .result) (c .before .before .loop .out) (c .before .before .loop .inv) (c .before .loop-test .taken) (c .before .before .before .before .before .before .pre .3) (c .pair-at2 .ensures)
 
--- src/lib.rt:73:9
 digit-at-requires : tie.Need-digit-at-requires Inv-loop μ-loop
 digit-at-requires c κs = search needs
 
--- src/lib.rt:75:29
 add-t17 : tie.Need-add-t17 Inv-loop μ-loop
 add-t17 c = let f = tokens.digit-there (c .before .before .before .before .before .before .before .args .s .now) (c .before .before .before .loop .q) (omega (arith, c .before .digit-at .ensures)) in let i = f .inside in omega arith
 
--- src/lib.rt:75:9
 same-length : tie.Need-same-length Inv-loop μ-loop
 same-length c = c .before .before .before .loop .inv .stored .long
 
--- src/lib.rt:75:9
 returns : tie.Need-returns Inv-loop μ-loop
 returns c = literals.literal-odd (c .before .before .before .before .before .before .before .args .s .now) (c .before .before .before .before .before .before .before .args .p) (c .before .before .before .before .before .before .before .args .o) (c .before .before .before .before .before .before .before .args .n) (c .before .before .before .before .before .before .before .args .out .now) (c .before .before .before .loop .j) (c .before .before .before .loop .q) (c .before .before .before .loop .b) (c .before .before .before .loop .out) (c .before .before .before .loop .inv) (c .before .before .loop-test .left) (omega (arith, c .before .digit-at .ensures))
 
--- src/lib.rt:77:11
 due-at-requires : tie.Need-due-at-requires Inv-loop μ-loop
 due-at-requires c κs = search needs
 
--- src/lib.rt:78:22
 enum-known-w : tie.Need-enum-known-w Inv-loop μ-loop
 enum-known-w c = search needs
 
--- src/lib.rt:80:16
 enum-told : tie.Need-enum-told Inv-loop μ-loop
 enum-told c = search needs
 
--- src/lib.rt:81:17
 same-length-2 : tie.Need-same-length-2 Inv-loop μ-loop
 same-length-2 c = c .before .before .before .before .before .before .before .loop .inv .stored .long
 
--- src/lib.rt:81:17
 returns-2 : tie.Need-returns-2 Inv-loop μ-loop
 returns-2 c = literals.literal-long (c .before .before .before .before .before .before .before .before .before .before .before .args .s .now) (c .before .before .before .before .before .before .before .before .before .before .before .args .p) (c .before .before .before .before .before .before .before .before .before .before .before .args .o) (c .before .before .before .before .before .before .before .before .before .before .before .args .n) (c .before .before .before .before .before .before .before .before .before .before .before .args .out .now) (c .before .before .before .before .before .before .before .loop .j) (c .before .before .before .before .before .before .before .loop .q) (c .before .before .before .before .before .before .before .loop .b) (c .before .before .before .before .before .before .before .loop .out) (c .before .before .before .before .before .before .before .loop .inv) (omega (arith, c .before .before .before .before .before .digit-at .ensures)) (tokens.due-stood (dueAt (c .before .before .before .before .before .before .before .before .before .before .before .args .s .now) 39 39 (c .before .before .before .before .before .before .before .loop .q)) (sym (c .before .before .before .due-at .ensures) ∙ c .before .enum-told .given .1)) (omega (arith, c .if2 .taken))
 
--- src/lib.rt:83:13
 put-head-requires : tie.Need-put-head-requires Inv-loop μ-loop
 put-head-requires c κs = let d = due-is (c .before .before .before .before .before .before .before .before .before .before .before .before .args .s .now) 39 39 (c .before .before .before .before .before .before .before .before .loop .q) (tokens.due-stood (dueAt (c .before .before .before .before .before .before .before .before .before .before .before .before .args .s .now) 39 39 (c .before .before .before .before .before .before .before .before .loop .q)) (sym (c .before .before .before .before .due-at .ensures) ∙ c .before .before .enum-told .given .1)) in let i = d .inside in let pl = c .before .before .before .before .before .before .before .before .loop .inv .place in let lg = c .before .before .before .before .before .before .before .before .loop .inv .stored .long in let pre = c .before .before .before .before .before .before .before .before .before .before .before .before .pre in omega arith
 
--- src/lib.rt:84:24
 add-t24 : tie.Need-add-t24 Inv-loop μ-loop
 add-t24 c = let d = due-is (c .before .before .before .before .before .before .before .before .before .before .before .before .before .before .before .args .s .now) 39 39 (c .before .before .before .before .before .before .before .before .before .before .before .loop .q) (tokens.due-stood (dueAt (c .before .before .before .before .before .before .before .before .before .before .before .before .before .before .before .args .s .now) 39 39 (c .before .before .before .before .before .before .before .before .before .before .before .loop .q)) (sym (c .before .before .before .before .before .before .before .due-at .ensures) ∙ c .before .before .before .before .before .enum-told .given .1)) in let i = d .inside in let pl = c .before .before .before .before .before .before .before .before .before .before .before .loop .inv .place in let lg = c .before .before .before .before .before .before .before .before .before .before .before .loop .inv .stored .long in let pre = c .before .before .before .before .before .before .before .before .before .before .before .before .before .before .before .pre in omega arith
 
--- src/lib.rt:84:31
 add-t25 : tie.Need-add-t25 Inv-loop μ-loop
 add-t25 c = let d = due-is (c .before .before .before .before .before .before .before .before .before .before .before .before .before .before .before .args .s .now) 39 39 (c .before .before .before .before .before .before .before .before .before .before .before .loop .q) (tokens.due-stood (dueAt (c .before .before .before .before .before .before .before .before .before .before .before .before .before .before .before .args .s .now) 39 39 (c .before .before .before .before .before .before .before .before .before .before .before .loop .q)) (sym (c .before .before .before .before .before .before .before .due-at .ensures) ∙ c .before .before .before .before .before .enum-told .given .1)) in let i = d .inside in let pl = c .before .before .before .before .before .before .before .before .before .before .before .loop .inv .place in let lg = c .before .before .before .before .before .before .before .before .before .before .before .loop .inv .stored .long in let pre = c .before .before .before .before .before .before .before .before .before .before .before .before .before .before .before .pre in omega arith
 
--- src/lib.rt:84:38
 add-t26 : tie.Need-add-t26 Inv-loop μ-loop
 add-t26 c = let d = due-is (c .before .before .before .before .before .before .before .before .before .before .before .before .before .before .before .args .s .now) 39 39 (c .before .before .before .before .before .before .before .before .before .before .before .loop .q) (tokens.due-stood (dueAt (c .before .before .before .before .before .before .before .before .before .before .before .before .before .before .before .args .s .now) 39 39 (c .before .before .before .before .before .before .before .before .before .before .before .loop .q)) (sym (c .before .before .before .before .before .before .before .due-at .ensures) ∙ c .before .before .before .before .before .enum-told .given .1)) in let i = d .inside in let pl = c .before .before .before .before .before .before .before .before .before .before .before .loop .inv .place in let lg = c .before .before .before .before .before .before .before .before .before .before .before .loop .inv .stored .long in let pre = c .before .before .before .before .before .before .before .before .before .before .before .before .before .before .before .pre in omega arith
 
--- src/lib.rt:84:38
 add-t27 : tie.Need-add-t27 Inv-loop μ-loop
 add-t27 c = let d = due-is (c .before .before .before .before .before .before .before .before .before .before .before .before .before .before .before .args .s .now) 39 39 (c .before .before .before .before .before .before .before .before .before .before .before .loop .q) (tokens.due-stood (dueAt (c .before .before .before .before .before .before .before .before .before .before .before .before .before .before .before .args .s .now) 39 39 (c .before .before .before .before .before .before .before .before .before .before .before .loop .q)) (sym (c .before .before .before .before .before .before .before .due-at .ensures) ∙ c .before .before .before .before .before .enum-told .given .1)) in let i = d .inside in let pl = c .before .before .before .before .before .before .before .before .before .before .before .loop .inv .place in let lg = c .before .before .before .before .before .before .before .before .before .before .before .loop .inv .stored .long in let pre = c .before .before .before .before .before .before .before .before .before .before .before .before .before .before .before .pre in omega arith
 
--- src/lib.rt:60:1
 same-length-3 : tie.Need-same-length-3 Inv-loop μ-loop
 same-length-3 c = c .before .before .before .before .before .before .before .loop .inv .stored .long
 
--- src/lib.rt:60:1
 returns-3 : tie.Need-returns-3 Inv-loop μ-loop
 returns-3 c = literals.literal-open (c .before .before .before .before .before .before .before .before .before .before .before .args .s .now) (c .before .before .before .before .before .before .before .before .before .before .before .args .p) (c .before .before .before .before .before .before .before .before .before .before .before .args .o) (c .before .before .before .before .before .before .before .before .before .before .before .args .n) (c .before .before .before .before .before .before .before .before .before .before .before .args .out .now) (c .before .before .before .before .before .before .before .loop .j) (c .before .before .before .before .before .before .before .loop .q) (c .before .before .before .before .before .before .before .loop .b) (c .before .before .before .before .before .before .before .loop .out) (c .before .before .before .before .before .before .before .loop .inv) (c .before .w .given .0 .0) (omega (arith, c .before .before .before .before .before .digit-at .ensures)) (tokens.due-missed (dueAt (c .before .before .before .before .before .before .before .before .before .before .before .args .s .now) 39 39 (c .before .before .before .before .before .before .before .loop .q)) (c .before .w .given .0 .0) (sym (c .before .before .before .due-at .ensures) ∙ c .before .w .given .1))
 
--- src/lib.rt:60:1
 same-length-4 : tie.Need-same-length-4 Inv-loop μ-loop
 same-length-4 c = c .before .before .put-head .kept .0 ∙ c .before .before .before .before .before .before .before .before .before .before .before .loop .inv .stored .long
 
--- src/lib.rt:60:1
 returns-4 : tie.Need-returns-4 Inv-loop μ-loop
 returns-4 c = let d = due-is (c .before .before .before .before .before .before .before .before .before .before .before .before .before .before .before .args .s .now) 39 39 (c .before .before .before .before .before .before .before .before .before .before .before .loop .q) (tokens.due-stood (dueAt (c .before .before .before .before .before .before .before .before .before .before .before .before .before .before .before .args .s .now) 39 39 (c .before .before .before .before .before .before .before .before .before .before .before .loop .q)) (sym (c .before .before .before .before .before .before .before .due-at .ensures) ∙ c .before .before .before .before .before .enum-told .given .1)) in let i = d .inside in let pl = c .before .before .before .before .before .before .before .before .before .before .before .loop .inv .place in let lg = c .before .before .before .before .before .before .before .before .before .before .before .loop .inv .stored .long in let pre = c .before .before .before .before .before .before .before .before .before .before .before .before .before .before .before .pre in literals.literal-done (c .before .before .before .before .before .before .before .before .before .before .before .before .before .before .before .args .s .now) (c .before .before .before .before .before .before .before .before .before .before .before .before .before .before .before .args .p) (c .before .before .before .before .before .before .before .before .before .before .before .before .before .before .before .args .o) (c .before .before .before .before .before .before .before .before .before .before .before .before .before .before .before .args .n) (c .before .before .before .before .before .before .before .before .before .before .before .before .before .before .before .args .out .now) (c .before .before .before .before .before .before .before .before .before .before .before .loop .j) (c .before .before .before .before .before .before .before .before .before .before .before .loop .q) (c .before .before .before .before .before .before .before .before .before .before .before .loop .b) (c .before .before .before .before .before .before .before .before .before .before .before .loop .out) (c .before .before .before .before .before .before .before .before .before .before .before .loop .inv) (c .before .before .put-head .last .0) (omega (arith, c .before .before .before .before .before .before .before .before .before .digit-at .ensures)) (tokens.due-stood (dueAt (c .before .before .before .before .before .before .before .before .before .before .before .before .before .before .before .args .s .now) 39 39 (c .before .before .before .before .before .before .before .before .before .before .before .loop .q)) (sym (c .before .before .before .before .before .before .before .due-at .ensures) ∙ c .before .before .before .before .before .enum-told .given .1)) (omega (arith, c .before .before .before .before .if2 .left)) (omega arith) (c .before .before .put-head .ensures)
 

@@ -1,74 +1,53 @@
-use Rattle.text_reader.proofs.Put as puts
 use Rattle.text_reader.proofs.Steps as steps
-use Rattle.text_reader.proofs.Literals as literals
 use Rattle.tokens.proofs.Laws as tokens
 use Rattle.texts.specs.Reading.{dueAt}
 use Rattle.texts.proofs.Standing.{due-is}
-use Prim.Native.Nat.{_+_, _-_, _*_, _/_, _%_, _≤_, _<_}
-use lib.ListN.{length, getD, length-set}
+use Prim.Native.Nat.{_+_}
 use native.Mathlib.Omega.{arith}
-use mathlib.Core.Path.{_≡_, refl, sym, ap, _∙_}
+use mathlib.Core.Path.{sym, _∙_}
 use borrow.Author.Needs.{needs}
 use Rattle.text_reader.proofs.name_at.Statement.{statement}
 use Rattle.text_reader.proofs.name_at.Tie as tie
-use Rattle.text_reader.proofs.name_at.Reads as reads
-use Rattle.text_reader.proofs.name_at.Lts as lts
-use Rattle.text_reader.proofs.put_leaf.Reads as put-leaf-reads
-use Rattle.tokens.proofs.due_at.Reads as due-at-reads
 
--- src/lib.rt:50:37
 add-due-at : tie.Need-add-due-at
 add-due-at c = search needs
 
--- src/lib.rt:50:11
 due-at-requires : tie.Need-due-at-requires
 due-at-requires c κs = search needs
 
--- src/lib.rt:51:22
 enum-known-w : tie.Need-enum-known-w
 enum-known-w c = search needs
 
--- src/lib.rt:53:22
 enum-told : tie.Need-enum-told
 enum-told c = search needs
 
--- src/lib.rt:53:35
 add-put-leaf : tie.Need-add-put-leaf
 add-put-leaf c = search needs
 
--- src/lib.rt:53:33
 shared-slice-read-put-leaf : tie.Need-shared-slice-read-put-leaf
 shared-slice-read-put-leaf c = let d = due-is (c .before .before .before .before .before .before .before .args .s .now) 48 (c .before .before .before .before .before .before .before .args .hi) ((c .before .before .before .before .before .before .before .args .p) + 1) (tokens.due-stood (dueAt (c .before .before .before .before .before .before .before .args .s .now) 48 (c .before .before .before .before .before .before .before .args .hi) ((c .before .before .before .before .before .before .before .args .p) + 1)) (sym (c .before .before .before .before .due-at .ensures) ∙ c .before .before .enum-told .given .1)) in let i = d .inside in let l = d .low in omega arith
 
--- src/lib.rt:53:33
 sub-put-leaf : tie.Need-sub-put-leaf
 sub-put-leaf c = let d = due-is (c .before .before .before .before .before .before .before .args .s .now) 48 (c .before .before .before .before .before .before .before .args .hi) ((c .before .before .before .before .before .before .before .args .p) + 1) (tokens.due-stood (dueAt (c .before .before .before .before .before .before .before .args .s .now) 48 (c .before .before .before .before .before .before .before .args .hi) ((c .before .before .before .before .before .before .before .args .p) + 1)) (sym (c .before .before .before .before .due-at .ensures) ∙ c .before .before .enum-told .given .1)) in let i = d .inside in let l = d .low in omega arith
 
--- src/lib.rt:53:13
 put-leaf-requires : tie.Need-put-leaf-requires
 put-leaf-requires c κs = let d = due-is (c .before .before .before .before .before .before .before .args .s .now) 48 (c .before .before .before .before .before .before .before .args .hi) ((c .before .before .before .before .before .before .before .args .p) + 1) (tokens.due-stood (dueAt (c .before .before .before .before .before .before .before .args .s .now) 48 (c .before .before .before .before .before .before .before .args .hi) ((c .before .before .before .before .before .before .before .args .p) + 1)) (sym (c .before .before .before .before .due-at .ensures) ∙ c .before .before .enum-told .given .1)) in let i = d .inside in let l = d .low in omega arith
 
--- src/lib.rt:54:24
 add-t15 : tie.Need-add-t15
 add-t15 c = search needs
 
--- src/lib.rt:54:31
 add-t19 : tie.Need-add-t19
 add-t19 c = search needs
 
--- src/lib.rt:54:38
 add-t20 : tie.Need-add-t20
 add-t20 c = search needs
 
--- src/lib.rt:46:1
 returns : tie.Need-returns
 returns c = steps.leaf-missing (c .before .before .before .before .before .before .args .k) (c .before .before .before .before .before .before .args .hi) (c .before .before .before .before .before .before .args .s .now) (c .before .before .before .before .before .before .args .p) (c .before .before .before .before .before .before .args .n) (c .before .before .before .before .before .before .args .o) (c .before .w .given .0 .0) (c .before .before .before .before .before .before .args .out .now) (c .before .before .before .before .before .before .args .out .now) (tokens.due-missed (dueAt (c .before .before .before .before .before .before .args .s .now) 48 (c .before .before .before .before .before .before .args .hi) ((c .before .before .before .before .before .before .args .p) + 1)) (c .before .w .given .0 .0) (sym (c .before .before .before .due-at .ensures) ∙ c .before .w .given .1))
 
--- src/lib.rt:46:1
 same-length : tie.Need-same-length
 same-length c = search needs
 
--- src/lib.rt:46:1
 returns-2 : tie.Need-returns-2
 returns-2 c = steps.leaf-done (c .before .before .before .before .before .before .before .before .before .before .args .k) (c .before .before .before .before .before .before .before .before .before .before .args .hi) (c .before .before .before .before .before .before .before .before .before .before .args .s .now) (c .before .before .before .before .before .before .before .before .before .before .args .p) (c .before .before .before .before .before .before .before .before .before .before .args .n) (c .before .before .before .before .before .before .before .before .before .before .args .o) (c .before .before .before .before .before .before .before .before .before .before .args .out .now) (c .before .before .put-leaf .last .0) (tokens.due-stood (dueAt (c .before .before .before .before .before .before .before .before .before .before .args .s .now) 48 (c .before .before .before .before .before .before .before .before .before .before .args .hi) ((c .before .before .before .before .before .before .before .before .before .before .args .p) + 1)) (sym (c .before .before .before .before .before .before .before .due-at .ensures) ∙ c .before .before .before .before .before .enum-told .given .1)) (c .before .before .put-leaf .ensures)
 

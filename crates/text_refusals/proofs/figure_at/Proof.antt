@@ -1,16 +1,12 @@
 use borrow.Author.Needs.{needs}
 use Rattle.tokens.specs.Tokens.{digitAt}
 use Rattle.tokens.proofs.Laws as tokens
-use Prim.Native.Nat.{_+_, _-_, _≤_, _<_}
+use Prim.Native.Nat.{_-_, _≤_}
 use lib.ListN.{length}
 use native.Mathlib.Omega.{arith}
 use mathlib.Core.Path.{_≡_}
 use Rattle.text_refusals.proofs.figure_at.Statement.{statement}
 use Rattle.text_refusals.proofs.figure_at.Tie as tie
-use Rattle.text_refusals.proofs.figure_at.Reads as reads
-use Rattle.text_refusals.proofs.figure_at.Lts as lts
-use Rattle.text_refusals.proofs.grown.Reads as grown-reads
-use Rattle.tokens.proofs.digit_at.Reads as digit-at-reads
 
 abbrev Inv-loop : tie.InvT-loop
 Inv-loop s p v₀ i₀ d₀ v i d = (i ≤ length s) × (d ≡ digitAt s i)
@@ -18,43 +14,33 @@ Inv-loop s p v₀ i₀ d₀ v i d = (i ≤ length s) × (d ≡ digitAt s i)
 abbrev μ-loop : tie.MeasureT-loop
 μ-loop s p v₀ i₀ d₀ v i d = length s - i
 
--- src/main.rt:37:9
 digit-at-requires : tie.Need-digit-at-requires Inv-loop μ-loop
 digit-at-requires c κs = search needs
 
--- src/main.rt:38:5
 loop-holds : tie.Need-loop-holds Inv-loop μ-loop
 loop-holds c = (omega arith, c .digit-at .ensures)
 
--- src/main.rt:39:9
 grown-requires : tie.Need-grown-requires Inv-loop μ-loop
 grown-requires c κs = search needs
 
--- src/main.rt:40:9
 add-i : tie.Need-add-i Inv-loop μ-loop
 add-i c = let e = c .before .before .loop .inv .1 in let h = tokens.digit-there (c .before .before .before .before .before .args .s .now) (c .before .before .loop .i) (omega arith) in let i = h .inside in omega arith
 
--- src/main.rt:41:9
 digit-at-requires-2 : tie.Need-digit-at-requires-2 Inv-loop μ-loop
 digit-at-requires-2 c κs = search needs
 
--- src/main.rt:38:5
 loop-less : tie.Need-loop-less Inv-loop μ-loop
 loop-less c = let e = c .before .before .before .loop .inv .1 in let h = tokens.digit-there (c .before .before .before .before .before .before .args .s .now) (c .before .before .before .loop .i) (omega arith) in let i = h .inside in omega arith
 
--- src/main.rt:38:5
 loop-again : tie.Need-loop-again Inv-loop μ-loop
 loop-again c = let e = c .before .before .before .loop .inv .1 in let h = tokens.digit-there (c .before .before .before .before .before .before .args .s .now) (c .before .before .before .loop .i) (omega arith) in let i = h .inside in (omega arith, c .digit-at2 .ensures)
 
--- src/main.rt:44:41
 add-t9 : tie.Need-add-t9 Inv-loop μ-loop
 add-t9 c = search needs
 
--- src/main.rt:44:9
 returns : tie.Need-returns Inv-loop μ-loop
 returns c = search needs
 
--- src/main.rt:31:1
 returns-2 : tie.Need-returns-2 Inv-loop μ-loop
 returns-2 c = search needs
 

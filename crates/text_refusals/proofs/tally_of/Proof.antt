@@ -1,14 +1,8 @@
 use borrow.Author.Needs.{needs}
-use Prim.Native.Nat.{_+_, _-_, _≤_, _<_}
+use Prim.Native.Nat.{_+_, _-_, _≤_}
 use lib.ListN.{length}
-use native.Mathlib.Omega.{arith}
 use Rattle.text_refusals.proofs.tally_of.Statement.{statement}
 use Rattle.text_refusals.proofs.tally_of.Tie as tie
-use Rattle.text_refusals.proofs.tally_of.Reads as reads
-use Rattle.text_refusals.proofs.tally_of.Lts as lts
-use Rattle.text_refusals.proofs.as_due.Reads as as-due-reads
-use Rattle.text_refusals.proofs.line_end.Reads as line-end-reads
-use Rattle.text_refusals.proofs.tell.Reads as tell-reads
 
 abbrev Inv-loop : tie.InvT-loop
 Inv-loop s rows₀ good₀ p₀ rows good p = (rows ≤ p) × (good ≤ rows) × (p ≤ length s + 1)
@@ -16,55 +10,42 @@ Inv-loop s rows₀ good₀ p₀ rows good p = (rows ≤ p) × (good ≤ rows) ×
 abbrev μ-loop : tie.MeasureT-loop
 μ-loop s rows₀ good₀ p₀ rows good p = length s - p
 
--- src/main.rt:130:5
 loop-holds : tie.Need-loop-holds Inv-loop μ-loop
 loop-holds c = search needs
 
--- src/main.rt:131:13
 line-end-requires : tie.Need-line-end-requires Inv-loop μ-loop
 line-end-requires c κs = search needs
 
--- src/main.rt:132:24
 sub-as-due : tie.Need-sub-as-due Inv-loop μ-loop
 sub-as-due c = search needs
 
--- src/main.rt:132:24
 part-as-due-start : tie.Need-part-as-due-start Inv-loop μ-loop
 part-as-due-start c = search needs
 
--- src/main.rt:132:24
 part-as-due-end : tie.Need-part-as-due-end Inv-loop μ-loop
 part-as-due-end c = search needs
 
--- src/main.rt:132:13
 as-due-requires : tie.Need-as-due-requires Inv-loop μ-loop
 as-due-requires c κs = search needs
 
--- src/main.rt:133:9
 add-rows : tie.Need-add-rows Inv-loop μ-loop
 add-rows c = search needs
 
--- src/main.rt:134:9
 add-good : tie.Need-add-good Inv-loop μ-loop
 add-good c = search needs
 
--- src/main.rt:136:13
 tell-requires : tie.Need-tell-requires Inv-loop μ-loop
 tell-requires c κs = search needs
 
--- src/main.rt:138:13
 add-p : tie.Need-add-p Inv-loop μ-loop
 add-p c = search needs
 
--- src/main.rt:130:5
 loop-less : tie.Need-loop-less Inv-loop μ-loop
 loop-less c = search needs
 
--- src/main.rt:130:5
 loop-again : tie.Need-loop-again Inv-loop μ-loop
 loop-again c = search needs
 
--- src/main.rt:126:1
 returns : tie.Need-returns Inv-loop μ-loop
 returns c = search needs
 

@@ -1,4 +1,3 @@
-use borrow.Author.Needs.{needs}
 use mathlib.Core.Path.{sym, ap}
 use Rattle.common.specs.Choice.{pick}
 use Rattle.tree.specs.Calls.{calls, plain, cipher}
@@ -7,95 +6,75 @@ use Rattle.tokens.specs.Tokens.{callIs, rowIs}
 use Rattle.tokens.proofs.Rows.{no-row}
 use Rattle.tokens.proofs.call_by.Statement.{statement}
 use Rattle.tokens.proofs.call_by.Tie as tie
-use Rattle.tokens.proofs.call_by.Reads as reads
-use Rattle.tokens.proofs.call_by.Lts as lts
 
--- src/lib.rt:147:1
 returns : tie.Need-returns
 unfolding callIs rowIs callBy calls plain cipher packed pick
 returns c = rw (c .match .keys1)
 
--- src/lib.rt:147:1
 returns-2 : tie.Need-returns-2
 unfolding callIs rowIs callBy calls plain cipher packed pick
 returns-2 c = rw (c .match .keys2)
 
--- src/lib.rt:147:1
 returns-3 : tie.Need-returns-3
 unfolding callIs rowIs callBy calls plain cipher packed pick
 returns-3 c = rw (c .match .keys3)
 
--- src/lib.rt:147:1
 returns-4 : tie.Need-returns-4
 unfolding callIs rowIs callBy calls plain cipher packed pick
 returns-4 c = rw (c .match .keys4)
 
--- src/lib.rt:147:1
 returns-5 : tie.Need-returns-5
 unfolding callIs rowIs callBy calls plain cipher packed pick
 returns-5 c = rw (c .match .keys5)
 
--- src/lib.rt:147:1
 returns-6 : tie.Need-returns-6
 unfolding callIs rowIs callBy calls plain cipher packed pick
 returns-6 c = rw (c .match .keys6)
 
--- src/lib.rt:147:1
 returns-7 : tie.Need-returns-7
 unfolding callIs rowIs callBy calls plain cipher packed pick
 returns-7 c = rw (c .match .keys7)
 
--- src/lib.rt:147:1
 returns-8 : tie.Need-returns-8
 unfolding callIs rowIs callBy calls plain cipher packed pick
 returns-8 c = rw (c .match .keys8)
 
--- src/lib.rt:147:1
 returns-9 : tie.Need-returns-9
 unfolding callIs rowIs callBy calls plain cipher packed pick
 returns-9 c = rw (c .match .keys9)
 
--- src/lib.rt:147:1
 returns-10 : tie.Need-returns-10
 unfolding callIs rowIs callBy calls plain cipher packed pick
 returns-10 c = rw (c .match .keys10)
 
--- src/lib.rt:147:1
 returns-11 : tie.Need-returns-11
 unfolding callIs rowIs callBy calls plain cipher packed pick
 returns-11 c = rw (c .match .keys11)
 
--- src/lib.rt:147:1
 returns-12 : tie.Need-returns-12
 unfolding callIs rowIs callBy calls plain cipher packed pick
 returns-12 c = rw (c .match .keys12)
 
--- src/lib.rt:147:1
 returns-13 : tie.Need-returns-13
 unfolding callIs rowIs callBy calls plain cipher packed pick
 returns-13 c = rw (c .match .keys13)
 
--- src/lib.rt:147:1
 returns-14 : tie.Need-returns-14
 unfolding callIs rowIs callBy calls plain cipher packed pick
 returns-14 c = rw (c .match .keys14)
 
--- src/lib.rt:147:1
 returns-15 : tie.Need-returns-15
 unfolding callIs rowIs callBy calls plain cipher packed pick
 returns-15 c = rw (c .match .keys15)
 
--- src/lib.rt:147:1
 returns-16 : tie.Need-returns-16
 unfolding callIs rowIs callBy calls plain cipher packed pick
 returns-16 c = rw (c .match .keys16)
 
--- src/lib.rt:147:1
 returns-17 : tie.Need-returns-17
 unfolding callIs rowIs callBy calls plain cipher packed pick
 returns-17 c = rw (c .match .keys17)
 
--- src/lib.rt:147:1
 returns-18 : tie.Need-returns-18
 unfolding callIs rowIs callBy calls plain cipher packed pick
 returns-18 c = sym (ap callIs (no-row (c .before .args .w) (c .match .rest .0 .0 .0 .0 .0 .0 .0 .0 .0 .0 .0 .0 .0 .0 .0 .0 .1) (c .match .rest .0 .0 .0 .0 .0 .0 .0 .0 .0 .0 .0 .0 .0 .0 .0 .1) (c .match .rest .0 .0 .0 .0 .0 .0 .0 .0 .0 .0 .0 .0 .0 .0 .1) (c .match .rest .0 .0 .0 .0 .0 .0 .0 .0 .0 .0 .0 .0 .0 .1) (c .match .rest .0 .0 .0 .0 .0 .0 .0 .0 .0 .0 .0 .0 .1) (c .match .rest .0 .0 .0 .0 .0 .0 .0 .0 .0 .0 .0 .1) (c .match .rest .0 .0 .0 .0 .0 .0 .0 .0 .0 .0 .1) (c .match .rest .0 .0 .0 .0 .0 .0 .0 .0 .0 .1) (c .match .rest .0 .0 .0 .0 .0 .0 .0 .0 .1) (c .match .rest .0 .0 .0 .0 .0 .0 .0 .1) (c .match .rest .0 .0 .0 .0 .0 .0 .1) (c .match .rest .0 .0 .0 .0 .0 .1) (c .match .rest .0 .0 .0 .0 .1) (c .match .rest .0 .0 .0 .1) (c .match .rest .0 .0 .1) (c .match .rest .0 .1) (c .match .rest .1)))

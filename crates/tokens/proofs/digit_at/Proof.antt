@@ -1,28 +1,18 @@
 use Rattle.tokens.proofs.Laws as laws
-use lib.ListN.{length, getD}
-use Prim.Native.Nat.{_+_, _-_, _≤_, _<_}
-use native.Mathlib.Omega.{arith}
-use mathlib.Core.Path.{_≡_, refl, sym, ap, _∙_}
+use mathlib.Core.Path.{_∙_}
 use borrow.Author.Needs.{needs}
 use Rattle.tokens.proofs.digit_at.Statement.{statement}
 use Rattle.tokens.proofs.digit_at.Tie as tie
-use Rattle.tokens.proofs.digit_at.Reads as reads
-use Rattle.tokens.proofs.digit_at.Lts as lts
-use Rattle.tokens.proofs.digit_of.Reads as digit-of-reads
 
--- src/lib.rt:81:9
 returns : tie.Need-returns
 returns c = laws.digit-past (c .before .before .args .s .now) (c .before .before .args .p) (c .if1 .taken)
 
--- src/lib.rt:83:14
 shared-slice-read-digit-of : tie.Need-shared-slice-read-digit-of
 shared-slice-read-digit-of c = search needs
 
--- src/lib.rt:83:5
 digit-of-requires : tie.Need-digit-of-requires
 digit-of-requires c κs = search needs
 
--- src/lib.rt:77:1
 returns-2 : tie.Need-returns-2
 returns-2 c = c .digit-of .ensures ∙ laws.digit-in (c .before .before .before .before .args .s .now) (c .before .before .before .before .args .p) (c .before .before .if1 .left)
 

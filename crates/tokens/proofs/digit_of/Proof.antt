@@ -1,35 +1,23 @@
 use Rattle.tokens.proofs.Laws as laws
-use lib.ListN.{length, getD}
-use Prim.Native.Nat.{_+_, _-_, _≤_, _<_}
-use native.Mathlib.Omega.{arith}
-use mathlib.Core.Path.{_≡_, refl, sym, ap, _∙_}
 use borrow.Author.Needs.{needs}
 use Rattle.tokens.proofs.digit_of.Statement.{statement}
 use Rattle.tokens.proofs.digit_of.Tie as tie
-use Rattle.tokens.proofs.digit_of.Reads as reads
-use Rattle.tokens.proofs.digit_of.Lts as lts
 
--- src/lib.rt:62:9
 returns : tie.Need-returns
 returns c = laws.digit-low (c .before .args .b) (c .if1 .taken)
 
--- src/lib.rt:65:9
 returns-2 : tie.Need-returns-2
 returns-2 c = laws.digit-figure (c .before .before .args .b) (c .before .if1 .left) (c .if2 .taken)
 
--- src/lib.rt:68:9
 returns-3 : tie.Need-returns-3
 returns-3 c = laws.digit-middle (c .before .before .before .args .b) (c .before .if2 .left) (c .if3 .taken)
 
--- src/lib.rt:71:16
 sub-result : tie.Need-sub-result
 sub-result c = search needs
 
--- src/lib.rt:71:9
 returns-4 : tie.Need-returns-4
 returns-4 c = laws.digit-letter (c .before .before .before .before .args .b) (c .before .if3 .left) (c .if4 .taken)
 
--- src/lib.rt:58:1
 returns-5 : tie.Need-returns-5
 returns-5 c = laws.digit-high (c .before .before .before .before .args .b) (c .if4 .left)
 

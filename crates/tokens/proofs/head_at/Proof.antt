@@ -1,58 +1,41 @@
 use Rattle.tokens.proofs.Laws as laws
 use Rattle.tokens.specs.Tokens.{headOf}
-use lib.ListN.{length, getD}
-use Prim.Native.Nat.{_+_, _-_, _≤_, _<_}
 use native.Mathlib.Omega.{arith}
-use mathlib.Core.Path.{_≡_, refl, sym, ap, _∙_}
+use mathlib.Core.Path.{sym, _∙_}
 use Rattle.tokens.specs.declared.Call.the-variants.{Plain, Cipher, Unknown}
 use borrow.Author.Needs.{needs}
 use Rattle.tokens.proofs.head_at.Statement.{statement}
 use Rattle.tokens.proofs.head_at.Tie as tie
-use Rattle.tokens.proofs.head_at.Reads as reads
-use Rattle.tokens.proofs.head_at.Lts as lts
-use Rattle.tokens.proofs.call_by.Reads as call-by-reads
-use Rattle.tokens.proofs.letters_at.Reads as letters-at-reads
-use Rattle.tokens.proofs.suite_at.Reads as suite-at-reads
 
--- src/lib.rt:190:9
 letters-at-requires : tie.Need-letters-at-requires
 letters-at-requires c κs = search needs
 
--- src/lib.rt:191:13
 add-q : tie.Need-add-q
 add-q c = let i = laws.letters-within (c .before .before .before .args .s .now) (c .before .before .before .args .p) (c .before .letters-at .result .count) (c .before .letters-at .result .word) (c .before .letters-at .ensures) in omega arith
 
--- src/lib.rt:192:11
 call-by-requires : tie.Need-call-by-requires
 call-by-requires c κs = search needs
 
--- src/lib.rt:193:21
 enum-known-k : tie.Need-enum-known-k
 enum-known-k c = search needs
 
--- src/lib.rt:194:22
 enum-known-k-2 : tie.Need-enum-known-k-2
 enum-known-k-2 c = search needs
 
--- src/lib.rt:194:31
 suite-at-requires : tie.Need-suite-at-requires
 suite-at-requires c κs = let i = laws.cipher-small (c .before .before .before .before .before .before .before .args .s .now) (c .before .before .before .before .before .before .before .args .p) (c .before .before .before .before .before .letters-at .result .count) (c .before .before .before .before .before .letters-at .result .word) (c .before .k2 .given .0 .0) (c .before .k2 .given .0 .1 .0) (c .before .before .before .before .before .letters-at .ensures) (sym (c .before .k2 .given .1) ∙ c .before .before .before .call-by .ensures) in omega arith
 
--- src/lib.rt:195:26
 enum-told : tie.Need-enum-told
 enum-told c = search needs
 
--- src/lib.rt:187:1
 returns : tie.Need-returns
 unfolding headOf
 returns c = laws.head-of (c .before .before .before .before .before .before .before .args .s .now) (c .before .before .before .before .before .before .before .args .p) (c .before .before .before .before .before .letters-at .result .count) (c .before .before .before .before .before .letters-at .result .word) (Plain (c .before .k .given .0 .0) (c .before .k .given .0 .1 .0)) (c .before .before .before .before .before .letters-at .ensures) (sym (c .before .k .given .1) ∙ c .before .before .before .call-by .ensures)
 
--- src/lib.rt:187:1
 returns-2 : tie.Need-returns-2
 unfolding headOf
 returns-2 c = c .suite-at .ensures ∙ laws.head-of (c .before .before .before .before .before .before .before .before .args .s .now) (c .before .before .before .before .before .before .before .before .args .p) (c .before .before .before .before .before .before .letters-at .result .count) (c .before .before .before .before .before .before .letters-at .result .word) (Cipher (c .before .before .k2 .given .0 .0) (c .before .before .k2 .given .0 .1 .0)) (c .before .before .before .before .before .before .letters-at .ensures) (sym (c .before .before .k2 .given .1) ∙ c .before .before .before .before .call-by .ensures)
 
--- src/lib.rt:187:1
 returns-3 : tie.Need-returns-3
 unfolding headOf
 returns-3 c = laws.head-of (c .before .before .before .before .before .before .args .s .now) (c .before .before .before .before .before .before .args .p) (c .before .before .before .before .letters-at .result .count) (c .before .before .before .before .letters-at .result .word) Unknown (c .before .before .before .before .letters-at .ensures) (sym (c .enum-told .given .1) ∙ c .before .before .call-by .ensures)

@@ -1,53 +1,37 @@
 use Rattle.tokens.proofs.Laws as laws
-use lib.ListN.{length, getD}
-use Prim.Native.Nat.{_+_, _-_, _≤_, _<_}
 use native.Mathlib.Omega.{arith}
-use mathlib.Core.Path.{_≡_, refl, sym, ap, _∙_}
+use mathlib.Core.Path.{_∙_}
 use borrow.Author.Needs.{needs}
 use Rattle.tokens.proofs.pair_at.Statement.{statement}
 use Rattle.tokens.proofs.pair_at.Tie as tie
-use Rattle.tokens.proofs.pair_at.Reads as reads
-use Rattle.tokens.proofs.pair_at.Lts as lts
-use Rattle.tokens.proofs.digit_at.Reads as digit-at-reads
-use Rattle.tokens.proofs.wide.Reads as wide-reads
 
--- src/lib.rt:90:9
 digit-at-requires : tie.Need-digit-at-requires
 digit-at-requires c κs = search needs
 
--- src/lib.rt:92:9
 returns : tie.Need-returns
 returns c = laws.pair-none (c .before .before .before .args .s .now) (c .before .before .before .args .p) (omega (arith, c .before .digit-at .ensures))
 
--- src/lib.rt:94:25
 add-digit-at : tie.Need-add-digit-at
 add-digit-at c = let h = laws.digit-there (c .before .before .before .args .s .now) (c .before .before .before .args .p) (omega (arith, c .before .digit-at .ensures)) in let i = h .inside in omega arith
 
--- src/lib.rt:94:9
 digit-at-requires-2 : tie.Need-digit-at-requires-2
 digit-at-requires-2 c κs = search needs
 
--- src/lib.rt:96:9
 returns-2 : tie.Need-returns-2
 returns-2 c = laws.pair-half (c .before .before .before .before .before .args .s .now) (c .before .before .before .before .before .args .p) (omega (arith, c .before .before .before .digit-at .ensures)) (omega (arith, c .before .digit-at2 .ensures))
 
--- src/lib.rt:98:10
 wide-requires : tie.Need-wide-requires
 wide-requires c κs = search needs
 
--- src/lib.rt:98:5
 mul-result : tie.Need-mul-result
 mul-result c = search needs
 
--- src/lib.rt:98:20
 wide-requires-2 : tie.Need-wide-requires-2
 wide-requires-2 c κs = search needs
 
--- src/lib.rt:98:5
 add-result : tie.Need-add-result
 add-result c = search needs
 
--- src/lib.rt:87:1
 returns-3 : tie.Need-returns-3
 returns-3 c = let h = laws.pair-whole (c .before .before .before .before .before .before .before .args .s .now) (c .before .before .before .before .before .before .before .args .p) (omega (arith, c .before .before .before .before .before .digit-at .ensures)) (omega (arith, c .before .before .before .digit-at2 .ensures)) in let a = c .before .before .before .before .before .digit-at .ensures in let b = c .before .before .before .digit-at2 .ensures in let x = c .before .wide .ensures .0 in let y = c .wide2 .ensures .0 in omega arith ∙ h
 

@@ -1,32 +1,19 @@
-use borrow.Author.Needs.{needs}
 use Rattle.unbound.proofs.Laws as laws
-use Rattle.unbound.specs.Scan.{hasOf}
-use Prim.Native.Nat.{_+_, _-_, _≤_, _<_}
-use lib.ListN.{length, getD, List·getD-eq-default}
-use native.Mathlib.Omega.{arith}
-use mathlib.Core.Path.{_≡_, refl, sym, ap, _∙_}
 use Rattle.unbound.proofs.has.Statement.{statement}
 use Rattle.unbound.proofs.has.Tie as tie
-use Rattle.unbound.proofs.has.Reads as reads
-use Rattle.unbound.proofs.has.Lts as lts
 
--- src/lib.rt:16:1
 returns : tie.Need-returns
 returns c = laws.has-0 (c .before .args .b0) (c .before .args .b1) (c .before .args .b2) (c .before .args .b3) (c .before .args .d) (c .match .keys1)
 
--- src/lib.rt:16:1
 returns-2 : tie.Need-returns-2
 returns-2 c = laws.has-1 (c .before .args .b0) (c .before .args .b1) (c .before .args .b2) (c .before .args .b3) (c .before .args .d) (c .match .keys2)
 
--- src/lib.rt:16:1
 returns-3 : tie.Need-returns-3
 returns-3 c = laws.has-2 (c .before .args .b0) (c .before .args .b1) (c .before .args .b2) (c .before .args .b3) (c .before .args .d) (c .match .keys3)
 
--- src/lib.rt:16:1
 returns-4 : tie.Need-returns-4
 returns-4 c = laws.has-3 (c .before .args .b0) (c .before .args .b1) (c .before .args .b2) (c .before .args .b3) (c .before .args .d) (c .match .keys4)
 
--- src/lib.rt:16:1
 returns-5 : tie.Need-returns-5
 returns-5 c = laws.has-none (c .before .args .b0) (c .before .args .b1) (c .before .args .b2) (c .before .args .b3) (c .before .args .d) (c .match .rest .0 .0 .0 .1) (c .match .rest .0 .0 .1) (c .match .rest .0 .1) (c .match .rest .1)
 
