@@ -37,10 +37,10 @@ loop-again : tie.Need-loop-again Inv-loop μ-loop
 loop-again c = laws.letters-more (c .before .before .before .before .before .before .args .s .now) (c .before .before .before .before .before .before .args .p) (c .before .before .before .loop .w) (c .before .before .before .loop .k) (c .before .before .before .loop .b) (c .before .more .result) (c .letter-at2 .result) (c .before .before .before .loop .inv) (c .before .before .loop-test .taken) (c .before .more .ensures) (c .letter-at2 .ensures)
 
 returns : tie.Need-returns Inv-loop μ-loop
-returns c = laws.letters-long (c .before .before .before .before .before .args .s .now) (c .before .before .before .before .before .args .p) (c .before .before .loop .w) (c .before .before .loop .k) (c .before .before .loop .b) (c .before .before .loop .inv) (c .before .loop-test .left) (c .if1 .taken)
+returns c = laws.letters-long (c .before .before .before .before .before .args .s .now) (c .before .before .before .before .before .args .p) (c .before .before .loop .w) (c .before .before .loop .k) (c .before .before .loop .b) (c .before .before .loop .inv) (c .before .loop-test .left) (omega (arith, c .if1 .taken))
 
 returns-2 : tie.Need-returns-2 Inv-loop μ-loop
-returns-2 c = laws.letters-short (c .before .before .before .before .before .args .s .now) (c .before .before .before .before .before .args .p) (c .before .before .loop .w) (c .before .before .loop .k) (c .before .before .loop .b) (c .before .before .loop .inv) (c .before .loop-test .left) (c .if1 .left)
+returns-2 c = laws.letters-short (c .before .before .before .before .before .args .s .now) (c .before .before .before .before .before .args .p) (c .before .before .loop .w) (c .before .before .loop .k) (c .before .before .loop .b) (c .before .before .loop .inv) (c .before .loop-test .left) (omega (arith, c .if1 .left))
 
 pub letters-at-spec : {M : Type 1} → statement M
 letters-at-spec =
