@@ -1,0 +1,8 @@
+-- Laws of the reader of texts.
+pub mod Put
+pub mod Steps
+pub mod Literals
+pub mod Zeros
+pub mod Calls
+pub mod Answers
+pub mod Decoded

@@ -1,0 +1,2 @@
+-- What the reader of texts gives back.
+pub mod Reader

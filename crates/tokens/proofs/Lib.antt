@@ -1,0 +1,4 @@
+-- Laws of the pieces.
+pub mod Laws
+pub mod Heads
+pub mod Rows

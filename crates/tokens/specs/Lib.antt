@@ -1,0 +1,2 @@
+-- The pieces that a text is read by.
+pub mod Tokens

@@ -1,0 +1,3 @@
+-- Laws of the scan.
+pub mod Laws
+pub mod Bindings

@@ -1,0 +1,2 @@
+-- The scan for an unbound `#`.
+pub mod Scan
