@@ -47,7 +47,6 @@ eight-xored s b w at j x y z h ex ey ez =
     (ap (λ v. byteOf v i) ex ∙ byte-pack 8 (λ i. getD b (at + 8 * j + i) 0) (λ i l. h (at + 8 * j + i)) i l ∙ ap (λ n. getD b n 0) (sum i))
     (ap₂ (λ (a b : ℕ). byteOf a b) (ey ∙ ap (λ n. wordAt s (w + n)) (sym (quotient j i l))) (sym (remainder j i l))))
   where
-<<<<<<< HEAD
     sum : (i : ℕ) → at + 8 * j + i ≡ at + (8 * j + i)
     sum i = omega arith
 
@@ -88,27 +87,3 @@ even-byte s k h e = byte-by s (k / 8) h (k % 8) (omega arith) (k / 2) (omega ari
 
 pub odd-byte : (s : List ℕ) (k : ℕ) → Pieces s → (k % 2 ≡ 0 → ⊥) → getD s (k / 2) 0 / 256 ≡ byteOf (wordAt s (k / 8)) (k % 8)
 odd-byte s k h e = byte-by s (k / 8) h (k % 8) (omega arith) (k / 2) (omega arith) .1 (λ q. e (omega arith))
-=======
-    more : 8 * j + 8 ≡ 8 * (j + 1)
-    more = omega arith
-
-    long : length o ≡ 8 * j + (length o₀ - 8 * j)
-    long = ap length e ∙ length-append (tab (8 * j) (bytes s)) (drop (8 * j) o₀) ∙ ap₂ (λ (x y : ℕ). x + y) (length-tab (8 * j) (bytes s)) (lib.ListN.length-drop (8 * j) o₀)
-
-    front : take (8 * j) o ≡ tab (8 * j) (bytes s)
-    front = ap (take (8 * j)) e ∙ take-at (tab (8 * j) (bytes s)) (drop (8 * j) o₀) (8 * j) (length-tab (8 * j) (bytes s))
-
-    back : drop (8 * j + length (tab 8 (byteOf w))) o ≡ drop (8 * (j + 1)) o₀
-    back =
-        ap (λ n. drop (8 * j + n) o) (length-tab 8 (byteOf w)) ∙ sym (drop-drop 8 (8 * j) o) ∙ ap (λ l. drop 8 (drop (8 * j) l)) e
-        ∙ ap (drop 8) (drop-at (tab (8 * j) (bytes s)) (drop (8 * j) o₀) (8 * j) (length-tab (8 * j) (bytes s))) ∙ drop-drop 8 (8 * j) o₀ ∙ ap (λ n. drop n o₀) more
-
-    run : tab 8 (byteOf w) ≡ tab 8 (λ i. bytes s (8 * j + i))
-    run = tab-ext 8 _ _ (λ i l. ap₂ byteOf (ew ∙ ap (wordAt s) (sym (quotient i l))) (sym (remainder i l)))
-      where
-        quotient : (i : ℕ) → i < 8 → (8 * j + i) / 8 ≡ j
-        quotient i l = omega arith
-
-        remainder : (i : ℕ) → i < 8 → (8 * j + i) % 8 ≡ i
-        remainder i l = omega arith
->>>>>>> 67fee1cc546a13e7e0a84baba4973234c578c9ae
