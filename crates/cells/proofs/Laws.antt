@@ -23,7 +23,7 @@ eight-bytes f w7 w6 w5 w4 w3 w2 w1 w0 e7 e6 e5 e4 e3 e2 e1 e0 = cc (word-pack f)
 -- eight stores, one after another
 pub sets-eight : (l : List ℕ) (at w : ℕ) →
     set (set (set (set (set (set (set (set l at (w % 256)) (at + 1) (w / 256 % 256)) (at + 2) (w / 65536 % 256)) (at + 3) (w / 16777216 % 256)) (at + 4) (w / 4294967296 % 256))
-        (at + 5) (w / 1099511627776 % 256)) (at + 6) (w / 281474976710656 % 256)) (at + 7) (w / 72057594037927936 % 256) ≡ sets l at (tab 8 (byteOf w))
+    (at + 5) (w / 1099511627776 % 256)) (at + 6) (w / 281474976710656 % 256)) (at + 7) (w / 72057594037927936 % 256) ≡ sets l at (tab 8 (byteOf w))
 unfolding tab byteOf
 sets-eight l at w = simp (towards-suc, div-one)
 
@@ -42,18 +42,23 @@ stored-more s o₀ o o′ j w h e ew e′ =
   where
     more : 8 * j + 8 ≡ 8 * (j + 1)
     more = omega arith
+
     long : length o ≡ 8 * j + (length o₀ - 8 * j)
     long = ap length e ∙ length-append (tab (8 * j) (bytes s)) (drop (8 * j) o₀) ∙ ap₂ (λ (x y : ℕ). x + y) (length-tab (8 * j) (bytes s)) (lib.ListN.length-drop (8 * j) o₀)
+
     front : take (8 * j) o ≡ tab (8 * j) (bytes s)
     front = ap (take (8 * j)) e ∙ take-at (tab (8 * j) (bytes s)) (drop (8 * j) o₀) (8 * j) (length-tab (8 * j) (bytes s))
+
     back : drop (8 * j + length (tab 8 (byteOf w))) o ≡ drop (8 * (j + 1)) o₀
     back =
         ap (λ n. drop (8 * j + n) o) (length-tab 8 (byteOf w)) ∙ sym (drop-drop 8 (8 * j) o) ∙ ap (λ l. drop 8 (drop (8 * j) l)) e
         ∙ ap (drop 8) (drop-at (tab (8 * j) (bytes s)) (drop (8 * j) o₀) (8 * j) (length-tab (8 * j) (bytes s))) ∙ drop-drop 8 (8 * j) o₀ ∙ ap (λ n. drop n o₀) more
+
     run : tab 8 (byteOf w) ≡ tab 8 (λ i. bytes s (8 * j + i))
     run = tab-ext 8 _ _ (λ i l. ap₂ byteOf (ew ∙ ap (wordAt s) (sym (quotient i l))) (sym (remainder i l)))
       where
         quotient : (i : ℕ) → i < 8 → (8 * j + i) / 8 ≡ j
         quotient i l = omega arith
+
         remainder : (i : ℕ) → i < 8 → (8 * j + i) % 8 ≡ i
         remainder i l = omega arith
