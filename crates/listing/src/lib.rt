@@ -14,6 +14,12 @@ pub enum Entry {
     Bad,
 }
 
+// The list reader: a lent list and a place in it.
+pub struct Lister<'a> {
+    pub src: &'a [u8],
+    pub at: usize,
+}
+
 // Where a value stands in a list, and how long it is.
 pub enum Found {
     At(usize, usize),
@@ -21,7 +27,7 @@ pub enum Found {
 }
 
 // The work of the list reader: the record at a place of a slice.
-pub fn entry_at(s: &[u8], at: usize) -> Entry
+fn entry_at(s: &[u8], at: usize) -> Entry
     ensures { λ r. ⌜ r ≡ entryAt (now (s .entry)) at ⌝ }
 {
     if s.len() <= at {
@@ -31,6 +37,25 @@ pub fn entry_at(s: &[u8], at: usize) -> Entry
         Head::Record(k, n) => Entry::Of(k, at + 4, n),
         Head::Cut => Entry::Bad,
     }
+}
+
+pub fn new<'a>(src: &'a [u8], at: usize) -> Lister<'a>
+    ensures { λ r. ⌜ (r .src ≡ src .entry) × (r .at ≡ at) ⌝ }
+{
+    Lister { src, at }
+}
+
+pub fn next<'a>(r: Lister<'a>) -> Entry
+    ensures { λ e. ⌜ e ≡ entryAt (now (r .entry .src)) (r .entry .at) ⌝ }
+{
+    entry_at(r.src, r.at)
+}
+
+// The record at a place, through the list reader: what every walk of a list calls.
+pub fn entry_of(s: &[u8], at: usize) -> Entry
+    ensures { λ r. ⌜ r ≡ entryAt (now (s .entry)) at ⌝ }
+{
+    next(new(s, at))
 }
 
 fn is_between(lo: usize, hi: usize, k: usize) -> bool
@@ -68,7 +93,7 @@ pub fn good(s: &[u8], run: bool) -> bool
     let mut seen = [0u8; 16];
     let mut at: usize = 0;
     loop {
-        match entry_at(s, at) {
+        match entry_of(s, at) {
             Entry::Of(k, start, n) => {
                 let i = slot(run, k);
                 if 16 <= i {
@@ -95,7 +120,7 @@ pub fn find(s: &[u8], k: usize) -> Found
 {
     let mut at: usize = 0;
     loop {
-        match entry_at(s, at) {
+        match entry_of(s, at) {
             Entry::Of(j, start, n) => {
                 if j == k {
                     return Found::At(start, n);
