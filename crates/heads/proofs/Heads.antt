@@ -6,14 +6,13 @@ use Prim.Native.Nat.{ℕ, _+_, _-_, _<_, _≤_}
 use native.Mathlib.Omega.{arith}
 use native.Mathlib.Nat.{add-zero}
 use lib.Dec.{ltb}
-use lib.ListN.{length, getD, take, drop, length-drop, length-take}
+use lib.ListN.{length, take, drop, length-drop, length-take}
 use lib.Seq.{getD-drop, drop-drop}
 use borrow.Author.Tests.{lt-ltb, le-ltb, ltb-false}
 use Rattle.common.specs.Choice.{pick}
 use Rattle.records.specs.Record.{word, Front, frontOf}
 use Rattle.records.specs.Record.Front.{front, cut}
 use Rattle.records.proofs.Shapes.{pick-true, pick-false}
-use Rattle.heads.specs.declared.Head.{Head}
 use Rattle.heads.specs.declared.Head.the-variants.{Record, Cut}
 use Rattle.heads.specs.Head.{headOf, headAt}
 

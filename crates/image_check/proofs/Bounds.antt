@@ -1,24 +1,23 @@
 -- How much a decoded tree can take: at most the bytes there, and four at least for each node.
-use mathlib.Core.Path.{_≡_, refl, ap, sym, _∙_, subst}
+use mathlib.Core.Path.{_≡_, refl, ap, sym, _∙_}
 use mathlib.Core.Bool.{Bool}
 use mathlib.Core.List.{List}
-use Prim.Native.Nat.{ℕ, zero, suc, _+_, _*_, _<_, _≤_}
+use Prim.Native.Nat.{ℕ, zero, suc, _+_, _*_, _≤_}
 use native.Mathlib.Omega.{arith}
 use lib.Dec.{eqb, leb, ltb}
-use lib.ListN.{length, getD, drop, length-drop}
+use lib.ListN.{length, getD, drop}
 use borrow.Author.Tests.{eqb-true}
 use Rattle.common.specs.Choice.{pick}
 use Rattle.tree.specs.Tree.{Tree}
 use Rattle.tree.specs.Tree.Tree.{literal, bound, row, run, one, two, three, four, when}
 use Rattle.tree.specs.Bounds.{nodes}
 use Rattle.records.specs.Record.{frontOf}
-use Rattle.records.specs.Record.Front.{front}
-use Rattle.records.specs.Decode.{Shape, shapeOf, Item, thenFront, constantIn, digitIn, oneIn, twoIn, threeIn, fourIn, byShape, decode}
+use Rattle.records.specs.Decode.{Shape, shapeOf, Item, constantIn, digitIn, byShape, decode}
 use Rattle.records.specs.Decode.Shape.{aConstant, aBound, aRow, aRun, aWhen, aOne, aTwo, aThree, aFour, noShape}
 use Rattle.records.specs.Decode.Item.{item, noItem}
 use Rattle.records.proofs.Back.{no-item, pick-item, then-front}
 use Rattle.records.proofs.Descend.{OnePart, TwoParts, ThreeParts, FourParts, one-part, two-parts, three-parts, four-parts}
-use Rattle.heads.proofs.Heads.{Whole, front-whole}
+use Rattle.heads.proofs.Heads.{front-whole}
 
 pub record Counts (n : ℕ) (t : Tree) (u : ℕ) : Type 0 where
   pub many : 4 * nodes t ≤ u

@@ -4,23 +4,21 @@ use mathlib.Core.Bool.{Bool, true, false}
 use mathlib.Core.List.{List}
 use Prim.Native.Nat.{ℕ, zero, suc, _+_, _≤_, max}
 use native.Mathlib.Omega.{arith}
-use native.Mathlib.Nat.{zero-add}
 use lib.Dec.{eqb}
 use lib.ListN.{length, drop}
 use borrow.Author.Tests.{eqb-true, eqb-false, ne-eqb}
 use Rattle.common.specs.Choice.{pick}
 use Rattle.tree.specs.Tree.{Tree}
-use Rattle.tree.specs.Tree.Tree.{literal, bound, row, run, one, two, three, four, when}
+use Rattle.tree.specs.Tree.Tree.{one, two, three, when}
 use Rattle.tree.specs.Bounds.{nodes, argumentsOf, whenKind}
 use Rattle.tree.proofs.Table.{when-arguments}
-use Rattle.records.specs.Decode.{Shape, callShape, shapeOf, Item, thenItem, filled, oneIn, twoIn, threeIn, fourIn, byShape}
-use Rattle.records.specs.Decode.Shape.{aWhen, aOne, aTwo, aThree, aFour, noShape}
+use Rattle.records.specs.Decode.{callShape, shapeOf, Item, thenItem, filled, oneIn, twoIn, threeIn, byShape}
+use Rattle.records.specs.Decode.Shape.{noShape}
 use Rattle.records.specs.Decode.Item.{item, noItem}
-use Rattle.records.proofs.Shapes.{pick-false, leaf-shapes, call-shape, call-shapes, not-when}
+use Rattle.records.proofs.Shapes.{pick-false, leaf-shapes, call-shape}
 use Rattle.kinds.specs.Tables.{opens, tablesFor, tablesOf}
 use Rattle.kinds.proofs.Quick.{arguments-few}
 use Rattle.tree.specs.Bounds.{ofRow}
-use Rattle.image_check.specs.declared.Checked.{Checked}
 use Rattle.image_check.specs.declared.Checked.the-variants.{Fits, Fails}
 use Rattle.image_check.specs.Check.{checkOf, thenFits, severalFrom, callOf}
 

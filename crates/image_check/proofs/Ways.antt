@@ -1,21 +1,18 @@
 -- The image check's answers, way by way.
-use mathlib.Core.Path.{_≡_, refl, ap, sym, _∙_, subst}
+use mathlib.Core.Path.{_≡_, refl, ap, sym, _∙_}
 use mathlib.Core.Bool.{Bool, true, false}
 use mathlib.Core.List.{List}
 use Prim.Native.Nat.{ℕ, zero, suc, _+_, _*_, _-_, _<_, _≤_, max}
 use native.Mathlib.Omega.{arith}
-use native.Mathlib.Nat.{add-zero}
 use lib.Dec.{eqb, leb, ltb}
 use lib.ListN.{length, getD, take, drop, length-drop}
 use lib.Seq.{take-all}
 use borrow.Author.Tests.{eq-eqb, ne-eqb, le-leb, lt-leb, lt-ltb, le-ltb}
 use Rattle.common.specs.Choice.{pick}
 use Rattle.tree.specs.Tree.{Tree}
-use Rattle.tree.specs.Tree.Tree.{literal, bound, row, run}
+use Rattle.tree.specs.Tree.Tree.{bound, row, run}
 use Rattle.tree.specs.Bounds.{nodes, argumentsOf}
-use Rattle.records.specs.Record.{frontOf}
-use Rattle.records.specs.Record.Front.{front, cut}
-use Rattle.records.specs.Decode.{Shape, shapeOf, Item, thenFront, constantIn, digitIn, byShape, decode, Image, wholeOf, imageWith}
+use Rattle.records.specs.Decode.{Shape, shapeOf, Item, thenFront, constantIn, digitIn, byShape, decode, wholeOf, imageWith}
 use Rattle.records.specs.Decode.Shape.{aConstant, aBound, aRow, aRun, noShape}
 use Rattle.records.specs.Decode.Item.{item, noItem}
 use Rattle.records.specs.Decode.Image.{image, noImage}

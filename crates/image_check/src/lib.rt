@@ -3,7 +3,7 @@ ghost use mathlib.Core.Path.{_≡_};
 ghost use Prim.Native.Nat.{_+_, _*_, _≤_, max};
 ghost use lib.ListN.{length};
 ghost use Rattle.records.specs.Decode.{shapeOf, constantIn, byShape, decode, imageWith};
-ghost use Rattle.image_check.specs.Check.{checkOf, digitOf, severalFrom, callOf, verdictOf};
+ghost use Rattle.image_check.specs.Check.{checkOf, digitOf, severalFrom, verdictOf};
 use heads::Head;
 
 // Of a record that stands first: the bytes that it takes, its nodes, the tables that it needs.

@@ -1,11 +1,10 @@
 -- Which tables a kind needs, way by way.
-use mathlib.Core.Path.{_≡_, refl, ap, sym, _∙_}
+use mathlib.Core.Path.{_≡_, refl, sym, _∙_}
 use mathlib.Core.Bool.{Bool, true, false}
 use Prim.Native.Nat.{ℕ, _+_, _-_, _<_, _≤_}
 use native.Mathlib.Omega.{arith}
-use lib.Dec.{leb, ltb}
+use lib.Dec.{leb}
 use borrow.Author.Tests.{le-leb, lt-leb, leb-true, leb-false, lt-ltb, le-ltb}
-use Rattle.common.specs.Choice.{pick}
 use Rattle.tree.specs.Bounds.{ofRow}
 use Rattle.kinds.specs.Tables.{opens, tablesFor}
 use Rattle.kinds.proofs.Quick.{pick-true, pick-false}

@@ -1,10 +1,9 @@
 -- The stretch that a leaf hands up holds its value: a constant's payload, or what the list gives its name.
 use mathlib.Core.Path.{_≡_, refl, ap, sym, _∙_, subst}
-use mathlib.Core.Bool.{Bool, true, false}
-use mathlib.Core.List.{List, []}
-use Prim.Native.Nat.{ℕ, zero, suc, _+_, _<_, _≤_}
+use mathlib.Core.Bool.{Bool}
+use mathlib.Core.List.{List}
+use Prim.Native.Nat.{ℕ, zero, suc, _+_}
 use native.Mathlib.Omega.{arith}
-use native.Mathlib.Nat.{add-zero}
 use lib.Dec.{eqb, leb, ltb}
 use lib.ListN.{length, getD, take, drop}
 use lib.Seq.{getD-take, getD-drop, drop-drop}
@@ -12,16 +11,16 @@ use borrow.Author.Tests.{eqb-true}
 use Rattle.common.specs.Choice.{pick}
 use Rattle.tree.specs.Tree.{Tree}
 use Rattle.tree.specs.Tree.Tree.{literal, bound, row, run, one, two, three, four, when}
-use Rattle.tree.specs.Bounds.{Bytes, whenKind}
+use Rattle.tree.specs.Bounds.{Bytes}
 use Rattle.tree.specs.Names.{Given}
-use Rattle.tree.specs.Names.Given.{given, nothing}
+use Rattle.tree.specs.Names.Given.{given}
 use Rattle.records.specs.Record.{frontOf}
 use Rattle.records.specs.Record.Front.{front}
 use Rattle.records.specs.Encode.{constantKind, rowKind, runKind, boundKind}
-use Rattle.records.specs.Decode.{Shape, shapeOf, Item, thenFront, constantIn, digitIn, byShape, decode}
+use Rattle.records.specs.Decode.{Shape, shapeOf, Item, constantIn, digitIn, byShape, decode}
 use Rattle.records.specs.Decode.Shape.{aConstant, aBound, aRow, aRun, aWhen, aOne, aTwo, aThree, aFour, noShape}
 use Rattle.records.specs.Decode.Item.{item, noItem}
-use Rattle.records.proofs.Shapes.{Says, shape-says, pick-true, pick-false}
+use Rattle.records.proofs.Shapes.{Says, shape-says}
 use Rattle.records.proofs.Back.{no-item, pick-item, then-front}
 use Rattle.records.proofs.Descend.{one-part, two-parts, three-parts, four-parts}
 use Rattle.lists.specs.Entries.{Entry, boundList, rowList, runList, listOf}
@@ -29,12 +28,12 @@ use Rattle.lists.specs.Entries.Listed.{listed}
 use Rattle.lists.specs.Given.{valueOf}
 use Rattle.heads.specs.declared.Head.the-variants.{Record}
 use Rattle.heads.specs.Head.{headOf, headAt}
-use Rattle.heads.proofs.Heads.{Stands, head-stands, Whole, front-whole}
+use Rattle.heads.proofs.Heads.{Whole, front-whole}
 use Rattle.listing.specs.declared.Found.{Found}
 use Rattle.listing.specs.declared.Found.the-variants as found
 use Rattle.listing.specs.Find.{findIn, stretchOf}
 use Rattle.listing.proofs.Finding.{found-value}
-use Rattle.leaf.specs.declared.Place.the-variants.{Image, List as InList, Nowhere}
+use Rattle.leaf.specs.declared.Place.the-variants.{Nowhere}
 use Rattle.leaf.specs.Place.{placeIn, placeOf, placed, leafIn}
 use Rattle.leaf.proofs.Ways.{place-image, place-row, place-run, place-bound}
 

@@ -16,7 +16,6 @@ use Rattle.heads.specs.declared.Head.the-variants.{Record, Cut}
 use Rattle.heads.specs.Head.{headAt}
 use Rattle.heads.proofs.Heads.{Stands, head-stands, head-none}
 use Rattle.listing.specs.Walk.{entryOf, entryAt}
-use Rattle.listing.specs.declared.Entry.{Entry}
 use Rattle.listing.specs.declared.Entry.the-variants.{Of, End, Bad}
 
 -- the three ways of `entry_at`

@@ -2,7 +2,7 @@
 use mathlib.Core.Path.{_≡_, refl, ap, sym, _∙_}
 use mathlib.Core.Bool.{Bool, true, false}
 use mathlib.Core.List.{List}
-use Prim.Native.Nat.{ℕ, zero, suc, _+_, _-_, _<_, _≤_}
+use Prim.Native.Nat.{ℕ, zero, suc, _+_, _-_, _≤_}
 use native.Mathlib.Omega.{arith}
 use lib.Dec.{eqb}
 use lib.ListN.{length, take, drop, length-drop}
@@ -10,10 +10,9 @@ use lib.Seq.{drop-drop}
 use borrow.Author.Tests.{eq-eqb, ne-eqb, lt-ltb}
 use Rattle.common.specs.Choice.{pick}
 use Rattle.tree.specs.Bounds.{Bytes}
-use Rattle.tree.specs.Names.{Given}
 use Rattle.tree.specs.Names.Given.{given, nothing}
-use Rattle.records.specs.Record.{Front, frontOf}
-use Rattle.records.specs.Record.Front.{front, cut}
+use Rattle.records.specs.Record.{frontOf}
+use Rattle.records.specs.Record.Front.{cut}
 use Rattle.records.proofs.Shapes.{pick-true, pick-false}
 use Rattle.lists.specs.Entries.{listOf}
 use Rattle.lists.specs.Entries.Listed.{listed}
@@ -27,7 +26,7 @@ use Rattle.listing.specs.declared.Entry.{Entry}
 use Rattle.listing.specs.declared.Entry.the-variants.{Of, End, Bad}
 use Rattle.listing.specs.declared.Found.{Found}
 use Rattle.listing.specs.declared.Found.the-variants.{At, Nowhere}
-use Rattle.listing.proofs.Entries.{Holds, entry-holds, Cuts, entry-cuts, entry-end}
+use Rattle.listing.proofs.Entries.{Holds, entry-holds, entry-cuts, entry-end}
 
 -- what holds before each record of the search
 pub record Sought (s : List ℕ) (k at : ℕ) : Type 0 where

@@ -3,3 +3,4 @@ pub mod Entries
 pub mod Slots
 pub mod Walking
 pub mod Finding
+pub mod Untaken

@@ -4,7 +4,7 @@ use mathlib.Core.Bool.{Bool, true, false}
 use Prim.Native.Nat.{ℕ, _+_, _-_, _<_, _≤_}
 use native.Mathlib.Omega.{arith}
 use lib.Dec.{leb}
-use borrow.Author.Tests.{leb-true, leb-false, le-leb, lt-leb}
+use borrow.Author.Tests.{leb-true, le-leb, lt-leb}
 use Rattle.common.specs.Choice.{pick}
 use Rattle.records.proofs.Shapes.{pick-true, pick-false}
 use Rattle.lists.specs.Entries.{between, preparing, running, boundList, rowList, runList}

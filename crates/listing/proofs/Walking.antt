@@ -4,8 +4,7 @@ use mathlib.Core.Bool.{Bool, true, false}
 use mathlib.Core.List.{List, [], _∷_}
 use Prim.Native.Nat.{ℕ, zero, suc, _+_, _-_, _<_, _≤_}
 use native.Mathlib.Omega.{arith}
-use native.Mathlib.Numerals.{sub-one}
-use lib.Dec.{eqb, leb}
+use lib.Dec.{eqb}
 use lib.ListN.{length, getD, set, drop, replicate, length-drop, length-set}
 use lib.Seq.{drop-drop, getD-set-same, getD-set-other}
 use borrow.Author.Tests.{eq-eqb, ne-eqb, eqb-true, eqb-false, le-leb, lt-leb}
@@ -18,7 +17,7 @@ use Rattle.lists.specs.Entries.{entry, Listed, among, withFirst, thenEntry, wal
 use Rattle.lists.specs.Entries.Listed.{listed, badList}
 use Rattle.heads.proofs.Heads.{Stands}
 use Rattle.listing.specs.Walk.{takenIn, isGood, slotOf}
-use Rattle.listing.proofs.Slots.{slot-taken, slot-none, slot-low, slot-own}
+use Rattle.listing.proofs.Slots.{slot-taken, slot-none, slot-own}
 use Rattle.listing.proofs.Entries.{Holds, Cuts}
 
 -- a kind that was met is marked 1

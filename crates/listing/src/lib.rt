@@ -1,7 +1,6 @@
 // Lists of values (document 01, section 6), walked record by record.
 ghost use mathlib.Core.Path.{_≡_};
 ghost use Prim.Native.Nat.{_+_, _<_};
-ghost use lib.ListN.{length};
 ghost use Rattle.lists.specs.Entries.{between, listOf};
 ghost use Rattle.listing.specs.Walk.{entryAt, slotOf, takenIn, isGood};
 ghost use Rattle.listing.specs.Find.{findIn};

@@ -1,7 +1,6 @@
 // Runs the lists and images of a table through the code, and counts the rows whose answer is the number due.
 // A row: P (a list for preparing), R (a list for running) or I (an image); the number due, for a good image the tables that it needs; a blank; the bytes.
 // A byte is two digits; *hhhh after it says how often it stands there.
-ghost use mathlib.Core.Path.{_≡_};
 ghost use Prim.Native.Nat.{_≤_, _<_};
 ghost use lib.ListN.{length};
 use image_check::Verdict;

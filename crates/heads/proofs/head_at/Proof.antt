@@ -3,47 +3,34 @@ use Rattle.heads.proofs.Heads.{too-few, runs-over, whole}
 use borrow.Author.Needs.{needs}
 use Rattle.heads.proofs.head_at.Statement.{statement}
 use Rattle.heads.proofs.head_at.Tie as tie
-use Rattle.heads.proofs.head_at.Reads as reads
-use Rattle.heads.proofs.head_at.Lts as lts
-use Rattle.heads.proofs.word_at.Reads as word-at-reads
 
--- src/lib.rt:26:9
 returns : tie.Need-returns
 returns c = too-few (c .before .before .args .s .now) (c .before .before .args .at) (omega arith)
 
--- src/lib.rt:28:8
 sub-if2 : tie.Need-sub-if2
 sub-if2 c = search needs
 
--- src/lib.rt:29:9
 returns-2 : tie.Need-returns-2
 returns-2 c = too-few (c .before .before .before .args .s .now) (c .before .before .before .args .at) (c .if2 .taken)
 
--- src/lib.rt:31:9
 word-at-requires : tie.Need-word-at-requires
 word-at-requires c κs = search needs
 
--- src/lib.rt:32:8
 sub-if3 : tie.Need-sub-if3
 sub-if3 c = search needs
 
--- src/lib.rt:32:8
 sub-if3-2 : tie.Need-sub-if3-2
 sub-if3-2 c = search needs
 
--- src/lib.rt:33:9
 returns-3 : tie.Need-returns-3
 returns-3 c = runs-over (c .before .before .before .before .before .args .s .now) (c .before .before .before .before .before .args .at) (c .before .word-at .result) (c .before .before .if2 .left) (c .before .word-at .ensures .0) (c .if3 .taken)
 
--- src/lib.rt:35:29
 add-word-at : tie.Need-add-word-at
 add-word-at c = search needs
 
--- src/lib.rt:35:18
 word-at-requires-2 : tie.Need-word-at-requires-2
 word-at-requires-2 c κs = search needs
 
--- src/lib.rt:22:1
 returns-4 : tie.Need-returns-4
 returns-4 c = whole (c .before .before .before .before .before .before .args .s .now) (c .before .before .before .before .before .before .args .at) (c .before .before .word-at .result) (c .word-at2 .result) (c .before .before .before .if2 .left) (c .before .before .word-at .ensures .0) (c .word-at2 .ensures .0) (c .before .if3 .left)
 

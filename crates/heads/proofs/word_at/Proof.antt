@@ -4,38 +4,28 @@ use Prim.Native.Nat.{_+_}
 use borrow.Author.Needs.{needs}
 use Rattle.heads.proofs.word_at.Statement.{statement}
 use Rattle.heads.proofs.word_at.Tie as tie
-use Rattle.heads.proofs.word_at.Reads as reads
-use Rattle.heads.proofs.word_at.Lts as lts
 
--- src/lib.rt:18:6
 shared-slice-read-result : tie.Need-shared-slice-read-result
 shared-slice-read-result c = search needs
 
--- src/lib.rt:18:6
 cast-result : tie.Need-cast-result
 cast-result c = omega (arith, c .shared-slice-known .given (c .before .args .i))
 
--- src/lib.rt:18:32
 add-result : tie.Need-add-result
 add-result c = search needs
 
--- src/lib.rt:18:30
 shared-slice-read-result-2 : tie.Need-shared-slice-read-result-2
 shared-slice-read-result-2 c = search needs
 
--- src/lib.rt:18:30
 cast-result-2 : tie.Need-cast-result-2
 cast-result-2 c = omega (arith, c .shared-slice-known2 .given (c .before .before .args .i + 1))
 
--- src/lib.rt:18:23
 mul-result : tie.Need-mul-result
 mul-result c = omega (arith, c .shared-slice-known2 .given (c .before .before .args .i + 1))
 
--- src/lib.rt:18:5
 add-result-2 : tie.Need-add-result-2
 add-result-2 c = omega (arith, c .before .shared-slice-known .given (c .before .before .args .i), c .shared-slice-known2 .given (c .before .before .args .i + 1))
 
--- src/lib.rt:14:1
 returns : tie.Need-returns
 returns c = (refl, omega (arith, c .before .shared-slice-known .given (c .before .before .args .i), c .shared-slice-known2 .given (c .before .before .args .i + 1)))
 

@@ -56,7 +56,6 @@ several-at t = and 1 several-kinds.ps (is 1 several-kinds.ps μ-several t) sever
 abbrev several-below : ℕ → In 1 several-kinds.ps
 several-below t = and 1 several-kinds.ps (falls 1 several-kinds.ps _<_ μ-several t) several.Pre
 
--- src/lib.rt:73:9
 by-kind-constant-in-requires : (t : ℕ) → by-kind-lts.Need-constant-in-requires (
   constant-in-reads.Asked,
   constant-in-reads.Learnt,
@@ -73,7 +72,6 @@ by-kind-constant-in-requires : (t : ℕ) → by-kind-lts.Need-constant-in-requir
 ) (by-kind-at t) by-kind.Post
 by-kind-constant-in-requires t c κs = search needs
 
--- src/lib.rt:73:9
 by-kind-returns : (t : ℕ) → by-kind-lts.Need-returns (
   constant-in-reads.Asked,
   constant-in-reads.Learnt,
@@ -90,7 +88,6 @@ by-kind-returns : (t : ℕ) → by-kind-lts.Need-returns (
 ) (by-kind-at t) by-kind.Post
 by-kind-returns t c = as-constant (decode (c .before .before .before .args .inner) (c .before .before .before .args .levels)) (c .before .before .before .args .inner) (c .before .before .before .args .k) (c .before .before .before .args .p .now) (c .constant-in .result) (c .before .if1 .taken) (c .constant-in .ensures)
 
--- src/lib.rt:76:9
 by-kind-digit-in-requires : (t : ℕ) → by-kind-lts.Need-digit-in-requires (
   constant-in-reads.Asked,
   constant-in-reads.Learnt,
@@ -107,7 +104,6 @@ by-kind-digit-in-requires : (t : ℕ) → by-kind-lts.Need-digit-in-requires (
 ) (by-kind-at t) by-kind.Post
 by-kind-digit-in-requires t c κs = search needs
 
--- src/lib.rt:76:9
 by-kind-returns-2 : (t : ℕ) → by-kind-lts.Need-returns-2 (
   constant-in-reads.Asked,
   constant-in-reads.Learnt,
@@ -124,7 +120,6 @@ by-kind-returns-2 : (t : ℕ) → by-kind-lts.Need-returns-2 (
 ) (by-kind-at t) by-kind.Post
 by-kind-returns-2 t c = as-row (decode (c .before .before .before .before .args .inner) (c .before .before .before .before .args .levels)) (c .before .before .before .before .args .inner) (c .before .before .before .before .args .k) (c .before .before .before .before .args .p .now) (c .digit-in .result) (c .before .if2 .taken) (c .digit-in .ensures)
 
--- src/lib.rt:79:9
 by-kind-digit-in-requires-2 : (t : ℕ) → by-kind-lts.Need-digit-in-requires-2 (
   constant-in-reads.Asked,
   constant-in-reads.Learnt,
@@ -141,7 +136,6 @@ by-kind-digit-in-requires-2 : (t : ℕ) → by-kind-lts.Need-digit-in-requires-2
 ) (by-kind-at t) by-kind.Post
 by-kind-digit-in-requires-2 t c κs = search needs
 
--- src/lib.rt:79:9
 by-kind-returns-3 : (t : ℕ) → by-kind-lts.Need-returns-3 (
   constant-in-reads.Asked,
   constant-in-reads.Learnt,
@@ -158,7 +152,6 @@ by-kind-returns-3 : (t : ℕ) → by-kind-lts.Need-returns-3 (
 ) (by-kind-at t) by-kind.Post
 by-kind-returns-3 t c = as-run (decode (c .before .before .before .before .before .args .inner) (c .before .before .before .before .before .args .levels)) (c .before .before .before .before .before .args .inner) (c .before .before .before .before .before .args .k) (c .before .before .before .before .before .args .p .now) (c .digit-in2 .result) (c .before .if3 .taken) (c .digit-in2 .ensures)
 
--- src/lib.rt:83:13
 by-kind-digit-in-requires-3 : (t : ℕ) → by-kind-lts.Need-digit-in-requires-3 (
   constant-in-reads.Asked,
   constant-in-reads.Learnt,
@@ -175,7 +168,6 @@ by-kind-digit-in-requires-3 : (t : ℕ) → by-kind-lts.Need-digit-in-requires-3
 ) (by-kind-at t) by-kind.Post
 by-kind-digit-in-requires-3 t c κs = search needs
 
--- src/lib.rt:83:13
 by-kind-returns-4 : (t : ℕ) → by-kind-lts.Need-returns-4 (
   constant-in-reads.Asked,
   constant-in-reads.Learnt,
@@ -192,7 +184,6 @@ by-kind-returns-4 : (t : ℕ) → by-kind-lts.Need-returns-4 (
 ) (by-kind-at t) by-kind.Post
 by-kind-returns-4 t c = as-bound (decode (c .before .before .before .before .before .before .before .args .inner) (c .before .before .before .before .before .before .before .args .levels)) (c .before .before .before .before .before .before .before .args .inner) (c .before .before .before .before .before .before .before .args .k) (c .before .before .before .before .before .before .before .args .p .now) (c .digit-in3 .result) (c .before .before .if4 .taken) (c .before .if5 .taken) (c .digit-in3 .ensures)
 
--- src/lib.rt:85:9
 by-kind-returns-5 : (t : ℕ) → by-kind-lts.Need-returns-5 (
   constant-in-reads.Asked,
   constant-in-reads.Learnt,
@@ -209,7 +200,6 @@ by-kind-returns-5 : (t : ℕ) → by-kind-lts.Need-returns-5 (
 ) (by-kind-at t) by-kind.Post
 by-kind-returns-5 t c = not-bound (decode (c .before .before .before .before .before .before .args .inner) (c .before .before .before .before .before .before .args .levels)) (c .before .before .before .before .before .before .args .inner) (c .before .before .before .before .before .before .args .k) (c .before .before .before .before .before .before .args .p .now) (c .before .if4 .taken) (c .if5 .left)
 
--- src/lib.rt:87:9
 by-kind-arguments-requires : (t : ℕ) → by-kind-lts.Need-arguments-requires (
   constant-in-reads.Asked,
   constant-in-reads.Learnt,
@@ -226,7 +216,6 @@ by-kind-arguments-requires : (t : ℕ) → by-kind-lts.Need-arguments-requires (
 ) (by-kind-at t) by-kind.Post
 by-kind-arguments-requires t c κs = search needs
 
--- src/lib.rt:89:9
 by-kind-returns-6 : (t : ℕ) → by-kind-lts.Need-returns-6 (
   constant-in-reads.Asked,
   constant-in-reads.Learnt,
@@ -243,7 +232,6 @@ by-kind-returns-6 : (t : ℕ) → by-kind-lts.Need-returns-6 (
 ) (by-kind-at t) by-kind.Post
 by-kind-returns-6 t c = no-call (decode (c .before .before .before .before .before .before .before .args .inner) (c .before .before .before .before .before .before .before .args .levels)) (c .before .before .before .before .before .before .before .args .inner) (c .before .before .before .before .before .before .before .args .p .now) (c .before .before .before .before .before .before .before .args .k) (c .before .before .before .before .before .if1 .left) (c .before .before .before .before .if2 .left) (c .before .before .before .if3 .left) (c .before .before .if4 .left) (sym (c .before .arguments .ensures) ∙ c .if6 .taken)
 
--- src/lib.rt:91:9
 by-kind-several-requires : (t : ℕ) → by-kind-lts.Need-several-requires (
   constant-in-reads.Asked,
   constant-in-reads.Learnt,
@@ -260,7 +248,6 @@ by-kind-several-requires : (t : ℕ) → by-kind-lts.Need-several-requires (
 ) (by-kind-at t) by-kind.Post
 by-kind-several-requires t c κs = let few = arguments-few (c .before .before .before .before .before .before .before .args .k) in search needs
 
--- src/lib.rt:93:27
 by-kind-enum-told : (t : ℕ) → by-kind-lts.Need-enum-told (
   constant-in-reads.Asked,
   constant-in-reads.Learnt,
@@ -277,7 +264,6 @@ by-kind-enum-told : (t : ℕ) → by-kind-lts.Need-enum-told (
 ) (by-kind-at t) by-kind.Post
 by-kind-enum-told t c = search needs
 
--- src/lib.rt:94:23
 by-kind-enum-known-a : (t : ℕ) → by-kind-lts.Need-enum-known-a (
   constant-in-reads.Asked,
   constant-in-reads.Learnt,
@@ -294,7 +280,6 @@ by-kind-enum-known-a : (t : ℕ) → by-kind-lts.Need-enum-known-a (
 ) (by-kind-at t) by-kind.Post
 by-kind-enum-known-a t c = search needs
 
--- src/lib.rt:96:38
 by-kind-add-t16 : (t : ℕ) → by-kind-lts.Need-add-t16 (
   constant-in-reads.Asked,
   constant-in-reads.Learnt,
@@ -311,7 +296,6 @@ by-kind-add-t16 : (t : ℕ) → by-kind-lts.Need-add-t16 (
 ) (by-kind-at t) by-kind.Post
 by-kind-add-t16 t c = search needs
 
--- src/lib.rt:96:51
 by-kind-add-t17 : (t : ℕ) → by-kind-lts.Need-add-t17 (
   constant-in-reads.Asked,
   constant-in-reads.Learnt,
@@ -328,7 +312,6 @@ by-kind-add-t17 : (t : ℕ) → by-kind-lts.Need-add-t17 (
 ) (by-kind-at t) by-kind.Post
 by-kind-add-t17 t c = let w = several-within (c .before .before .before .before .before .before .before .before .before .before .before .before .args .inner) (c .before .before .before .before .before .before .before .before .before .before .before .before .args .levels) (c .before .before .before .before .before .before .before .before .before .before .before .before .args .p .now) (c .before .before .before .before .before .before .arguments .result) (c .before .before .before .before .several .result) (c .before .before .a .given .0 .0) (c .before .before .a .given .0 .1 .0) (c .before .before .a .given .0 .1 .1 .0) (c .before .before .before .before .several .ensures) (c .before .before .a .given .1) in omega (arith, w .0, w .1, c .before .before .before .before .before .before .before .before .before .before .before .before .good)
 
--- src/lib.rt:96:66
 by-kind-tables-for-requires : (t : ℕ) → by-kind-lts.Need-tables-for-requires (
   constant-in-reads.Asked,
   constant-in-reads.Learnt,
@@ -345,7 +328,6 @@ by-kind-tables-for-requires : (t : ℕ) → by-kind-lts.Need-tables-for-requires
 ) (by-kind-at t) by-kind.Post
 by-kind-tables-for-requires t c κs = search needs
 
--- src/lib.rt:96:58
 by-kind-greater-requires : (t : ℕ) → by-kind-lts.Need-greater-requires (
   constant-in-reads.Asked,
   constant-in-reads.Learnt,
@@ -362,7 +344,6 @@ by-kind-greater-requires : (t : ℕ) → by-kind-lts.Need-greater-requires (
 ) (by-kind-at t) by-kind.Post
 by-kind-greater-requires t c κs = search needs
 
--- src/lib.rt:96:17
 by-kind-returns-7 : (t : ℕ) → by-kind-lts.Need-returns-7 (
   constant-in-reads.Asked,
   constant-in-reads.Learnt,
@@ -379,7 +360,6 @@ by-kind-returns-7 : (t : ℕ) → by-kind-lts.Need-returns-7 (
 ) (by-kind-at t) by-kind.Post
 by-kind-returns-7 t c = call-fits (decode (c .before .before .before .before .before .before .before .before .before .before .before .before .before .before .args .inner) (c .before .before .before .before .before .before .before .before .before .before .before .before .before .before .args .levels)) (c .before .before .before .before .before .before .before .before .before .before .before .before .before .before .args .inner) (c .before .before .before .before .before .before .before .before .before .before .before .before .before .before .args .k) (c .before .before .before .before .before .before .before .before .arguments .result) (c .before .before .before .before .before .before .before .before .before .before .before .before .before .before .args .p .now) (c .before .before .before .before .before .before .several .result) (c .before .before .before .before .before .before .before .before .arguments .ensures) (c .before .before .before .before .before .before .before .if6 .left) (c .before .before .before .before .before .before .several .ensures) (c .before .before .before .before .a .given .0 .0) (c .before .before .before .before .a .given .0 .1 .0) (c .before .before .before .before .a .given .0 .1 .1 .0) (c .before .before .before .before .a .given .1) (c .before .before .if7 .taken) (c .before .tables-for .result) (c .greater .result) (c .before .tables-for .ensures) (c .greater .ensures)
 
--- src/lib.rt:69:1
 by-kind-returns-8 : (t : ℕ) → by-kind-lts.Need-returns-8 (
   constant-in-reads.Asked,
   constant-in-reads.Learnt,
@@ -396,7 +376,6 @@ by-kind-returns-8 : (t : ℕ) → by-kind-lts.Need-returns-8 (
 ) (by-kind-at t) by-kind.Post
 by-kind-returns-8 t c = call-fails (decode (c .before .before .before .before .before .before .before .before .before .before .args .inner) (c .before .before .before .before .before .before .before .before .before .before .args .levels)) (c .before .before .before .before .before .before .before .before .before .before .args .inner) (c .before .before .before .before .before .before .before .before .before .before .args .k) (c .before .before .before .before .arguments .result) (c .before .before .before .before .before .before .before .before .before .before .args .p .now) (c .before .before .several .result) (c .before .before .before .before .arguments .ensures) (c .before .before .before .if6 .left) (c .before .before .several .ensures) (c .enum-told .given .1)
 
--- src/lib.rt:69:1
 by-kind-returns-9 : (t : ℕ) → by-kind-lts.Need-returns-9 (
   constant-in-reads.Asked,
   constant-in-reads.Learnt,
@@ -413,7 +392,6 @@ by-kind-returns-9 : (t : ℕ) → by-kind-lts.Need-returns-9 (
 ) (by-kind-at t) by-kind.Post
 by-kind-returns-9 t c = call-unfilled (decode (c .before .before .before .before .before .before .before .before .before .before .before .before .args .inner) (c .before .before .before .before .before .before .before .before .before .before .before .before .args .levels)) (c .before .before .before .before .before .before .before .before .before .before .before .before .args .inner) (c .before .before .before .before .before .before .before .before .before .before .before .before .args .k) (c .before .before .before .before .before .before .arguments .result) (c .before .before .before .before .before .before .before .before .before .before .before .before .args .p .now) (c .before .before .before .before .several .result) (c .before .before .before .before .before .before .arguments .ensures) (c .before .before .before .before .before .if6 .left) (c .before .before .before .before .several .ensures) (c .before .before .a .given .0 .0) (c .before .before .a .given .0 .1 .0) (c .before .before .a .given .0 .1 .1 .0) (c .before .before .a .given .1) (c .if7 .left)
 
--- src/lib.rt:57:9
 record-in-returns : (t : ℕ) → record-in-lts.Need-returns (
   head-at-reads.Asked,
   head-at-reads.Learnt,
@@ -422,7 +400,6 @@ record-in-returns : (t : ℕ) → record-in-lts.Need-returns (
 ) (record-in-at t) record-in.Post
 record-in-returns t c = no-levels (c .before .before .args .inner) (c .before .before .args .levels) (c .before .before .args .s .now) (c .if1 .taken)
 
--- src/lib.rt:59:11
 record-in-head-at-requires : (t : ℕ) → record-in-lts.Need-head-at-requires (
   head-at-reads.Asked,
   head-at-reads.Learnt,
@@ -431,7 +408,6 @@ record-in-head-at-requires : (t : ℕ) → record-in-lts.Need-head-at-requires (
 ) (record-in-at t) record-in.Post
 record-in-head-at-requires t c κs = search needs
 
--- src/lib.rt:60:22
 record-in-enum-told : (t : ℕ) → record-in-lts.Need-enum-told (
   head-at-reads.Asked,
   head-at-reads.Learnt,
@@ -440,7 +416,6 @@ record-in-enum-told : (t : ℕ) → record-in-lts.Need-enum-told (
 ) (record-in-at t) record-in.Post
 record-in-enum-told t c = search needs
 
--- src/lib.rt:61:22
 record-in-enum-known-k : (t : ℕ) → record-in-lts.Need-enum-known-k (
   head-at-reads.Asked,
   head-at-reads.Learnt,
@@ -449,7 +424,6 @@ record-in-enum-known-k : (t : ℕ) → record-in-lts.Need-enum-known-k (
 ) (record-in-at t) record-in.Post
 record-in-enum-known-k t c = search needs
 
--- src/lib.rt:62:21
 record-in-add-e : (t : ℕ) → record-in-lts.Need-add-e (
   head-at-reads.Asked,
   head-at-reads.Learnt,
@@ -458,7 +432,6 @@ record-in-add-e : (t : ℕ) → record-in-lts.Need-add-e (
 ) (record-in-at t) record-in.Post
 record-in-add-e t c = omega (arith, record-room (c .before .before .before .before .before .before .args .inner) (c .before .before .before .before .before .before .args .levels) (c .before .before .before .before .before .before .args .s .now) (c .before .before .before .before .if1 .left) (c .before .before .before .head-at .result) (c .before .before .before .head-at .ensures) (c .before .k .given .0 .0) (c .before .k .given .0 .1 .0) (c .before .k .given .1), c .before .before .before .before .before .before .good)
 
--- src/lib.rt:63:21
 record-in-sub-p : (t : ℕ) → record-in-lts.Need-sub-p (
   head-at-reads.Asked,
   head-at-reads.Learnt,
@@ -467,7 +440,6 @@ record-in-sub-p : (t : ℕ) → record-in-lts.Need-sub-p (
 ) (record-in-at t) record-in.Post
 record-in-sub-p t c = search needs
 
--- src/lib.rt:63:21
 record-in-part-p-start : (t : ℕ) → record-in-lts.Need-part-p-start (
   head-at-reads.Asked,
   head-at-reads.Learnt,
@@ -476,7 +448,6 @@ record-in-part-p-start : (t : ℕ) → record-in-lts.Need-part-p-start (
 ) (record-in-at t) record-in.Post
 record-in-part-p-start t c = search needs
 
--- src/lib.rt:63:21
 record-in-part-p-end : (t : ℕ) → record-in-lts.Need-part-p-end (
   head-at-reads.Asked,
   head-at-reads.Learnt,
@@ -485,7 +456,6 @@ record-in-part-p-end : (t : ℕ) → record-in-lts.Need-part-p-end (
 ) (record-in-at t) record-in.Post
 record-in-part-p-end t c = omega (arith, record-room (c .before .before .before .before .before .before .args .inner) (c .before .before .before .before .before .before .args .levels) (c .before .before .before .before .before .before .args .s .now) (c .before .before .before .before .if1 .left) (c .before .before .before .head-at .result) (c .before .before .before .head-at .ensures) (c .before .k .given .0 .0) (c .before .k .given .0 .1 .0) (c .before .k .given .1))
 
--- src/lib.rt:64:24
 record-in-sub-by-kind : (t : ℕ) → record-in-lts.Need-sub-by-kind (
   head-at-reads.Asked,
   head-at-reads.Learnt,
@@ -494,7 +464,6 @@ record-in-sub-by-kind : (t : ℕ) → record-in-lts.Need-sub-by-kind (
 ) (record-in-at t) record-in.Post
 record-in-sub-by-kind t c = search needs
 
--- src/lib.rt:64:13
 record-in-by-kind-requires : (t : ℕ) → record-in-lts.Need-by-kind-requires (
   head-at-reads.Asked,
   head-at-reads.Learnt,
@@ -503,7 +472,6 @@ record-in-by-kind-requires : (t : ℕ) → record-in-lts.Need-by-kind-requires (
 ) (record-in-at t) record-in.Post
 record-in-by-kind-requires t c κs = let w = record-room (c .before .before .before .before .before .before .before .args .inner) (c .before .before .before .before .before .before .before .args .levels) (c .before .before .before .before .before .before .before .args .s .now) (c .before .before .before .before .before .if1 .left) (c .before .before .before .before .head-at .result) (c .before .before .before .before .head-at .ensures) (c .before .before .k .given .0 .0) (c .before .before .k .given .0 .1 .0) (c .before .before .k .given .1) in search needs
 
--- src/lib.rt:53:1
 record-in-returns-2 : (t : ℕ) → record-in-lts.Need-returns-2 (
   head-at-reads.Asked,
   head-at-reads.Learnt,
@@ -512,7 +480,6 @@ record-in-returns-2 : (t : ℕ) → record-in-lts.Need-returns-2 (
 ) (record-in-at t) record-in.Post
 record-in-returns-2 t c = record-cut (c .before .before .before .before .before .args .inner) (c .before .before .before .before .before .args .levels) (c .before .before .before .before .before .args .s .now) (c .before .before .before .if1 .left) (c .before .before .head-at .result) (c .before .before .head-at .ensures) (c .enum-told .given .1)
 
--- src/lib.rt:53:1
 record-in-returns-3 : (t : ℕ) → record-in-lts.Need-returns-3 (
   head-at-reads.Asked,
   head-at-reads.Learnt,
@@ -521,7 +488,6 @@ record-in-returns-3 : (t : ℕ) → record-in-lts.Need-returns-3 (
 ) (record-in-at t) record-in.Post
 record-in-returns-3 t c = record-opened (c .before .before .before .before .before .before .before .before .args .inner) (c .before .before .before .before .before .before .before .before .args .levels) (c .before .before .before .before .before .before .before .before .args .s .now) (c .before .before .before .before .before .before .if1 .left) (c .before .before .before .before .before .head-at .result) (c .before .before .before .before .before .head-at .ensures) (c .before .before .before .k .given .0 .0) (c .before .before .before .k .given .0 .1 .0) (c .by-kind .result) (c .before .before .before .k .given .1) (c .by-kind .ensures)
 
--- src/lib.rt:109:9
 several-returns : (t : ℕ) → several-lts.Need-returns (
   record-in-below t,
   record-in.Post,
@@ -532,7 +498,6 @@ several-returns : (t : ℕ) → several-lts.Need-returns (
 ) (several-at t) several.Post
 several-returns t c = several-none (c .before .before .args .inner) (c .before .before .args .levels) (c .before .before .args .p .now) (c .before .before .args .left) (c .before .before .args .u) (c .before .before .args .m) (c .before .before .args .x) (c .if1 .taken)
 
--- src/lib.rt:111:13
 several-sub-q : (t : ℕ) → several-lts.Need-sub-q (
   record-in-below t,
   record-in.Post,
@@ -543,7 +508,6 @@ several-sub-q : (t : ℕ) → several-lts.Need-sub-q (
 ) (several-at t) several.Post
 several-sub-q t c = search needs
 
--- src/lib.rt:111:13
 several-part-q-start : (t : ℕ) → several-lts.Need-part-q-start (
   record-in-below t,
   record-in.Post,
@@ -554,7 +518,6 @@ several-part-q-start : (t : ℕ) → several-lts.Need-part-q-start (
 ) (several-at t) several.Post
 several-part-q-start t c = search needs
 
--- src/lib.rt:111:13
 several-part-q-end : (t : ℕ) → several-lts.Need-part-q-end (
   record-in-below t,
   record-in.Post,
@@ -565,7 +528,6 @@ several-part-q-end : (t : ℕ) → several-lts.Need-part-q-end (
 ) (several-at t) several.Post
 several-part-q-end t c = search needs
 
--- src/lib.rt:112:11
 several-record-in-requires : (t : ℕ) → several-lts.Need-record-in-requires (
   record-in-below t,
   record-in.Post,
@@ -576,7 +538,6 @@ several-record-in-requires : (t : ℕ) → several-lts.Need-record-in-requires (
 ) (several-at t) several.Post
 several-record-in-requires t c κs = search needs
 
--- src/lib.rt:113:27
 several-enum-told : (t : ℕ) → several-lts.Need-enum-told (
   record-in-below t,
   record-in.Post,
@@ -587,7 +548,6 @@ several-enum-told : (t : ℕ) → several-lts.Need-enum-told (
 ) (several-at t) several.Post
 several-enum-told t c = search needs
 
--- src/lib.rt:114:23
 several-enum-known-v : (t : ℕ) → several-lts.Need-enum-known-v (
   record-in-below t,
   record-in.Post,
@@ -598,7 +558,6 @@ several-enum-known-v : (t : ℕ) → several-lts.Need-enum-known-v (
 ) (several-at t) several.Post
 several-enum-known-v t c = search needs
 
--- src/lib.rt:114:61
 several-sub-several : (t : ℕ) → several-lts.Need-sub-several (
   record-in-below t,
   record-in.Post,
@@ -609,7 +568,6 @@ several-sub-several : (t : ℕ) → several-lts.Need-sub-several (
 ) (several-at t) several.Post
 several-sub-several t c = search needs
 
--- src/lib.rt:114:71
 several-add-several : (t : ℕ) → several-lts.Need-add-several (
   record-in-below t,
   record-in.Post,
@@ -620,7 +578,6 @@ several-add-several : (t : ℕ) → several-lts.Need-add-several (
 ) (several-at t) several.Post
 several-add-several t c = let w = part-within (c .before .before .before .before .before .before .before .args .inner) (c .before .before .before .before .before .before .before .args .levels) (c .before .before .before .before .before .before .before .args .p .now) (c .before .before .before .before .before .before .before .args .u) (c .before .before .before .record-in .result) (c .before .v .given .0 .0) (c .before .v .given .0 .1 .0) (c .before .v .given .0 .1 .1 .0) (c .before .before .before .before .before .before .before .pre .1 .1) (c .before .before .before .record-in .ensures) (c .before .v .given .1) in omega (arith, w .1, c .before .before .before .before .before .before .before .good)
 
--- src/lib.rt:114:78
 several-add-several-2 : (t : ℕ) → several-lts.Need-add-several-2 (
   record-in-below t,
   record-in.Post,
@@ -631,7 +588,6 @@ several-add-several-2 : (t : ℕ) → several-lts.Need-add-several-2 (
 ) (several-at t) several.Post
 several-add-several-2 t c = let w = part-within (c .before .before .before .before .before .before .before .args .inner) (c .before .before .before .before .before .before .before .args .levels) (c .before .before .before .before .before .before .before .args .p .now) (c .before .before .before .before .before .before .before .args .u) (c .before .before .before .record-in .result) (c .before .v .given .0 .0) (c .before .v .given .0 .1 .0) (c .before .v .given .0 .1 .1 .0) (c .before .before .before .before .before .before .before .pre .1 .1) (c .before .before .before .record-in .ensures) (c .before .v .given .1) in omega (arith, w .0, w .1, c .before .before .before .before .before .before .before .good)
 
--- src/lib.rt:114:85
 several-greater-requires : (t : ℕ) → several-lts.Need-greater-requires (
   record-in-below t,
   record-in.Post,
@@ -642,7 +598,6 @@ several-greater-requires : (t : ℕ) → several-lts.Need-greater-requires (
 ) (several-at t) several.Post
 several-greater-requires t c κs = search needs
 
--- src/lib.rt:114:35
 several-several-requires : (t : ℕ) → several-lts.Need-several-requires (
   record-in-below t,
   record-in.Post,
@@ -653,7 +608,6 @@ several-several-requires : (t : ℕ) → several-lts.Need-several-requires (
 ) (several-at t) several.Post
 several-several-requires t c κs = let w = part-within (c .before .before .before .before .before .before .before .before .args .inner) (c .before .before .before .before .before .before .before .before .args .levels) (c .before .before .before .before .before .before .before .before .args .p .now) (c .before .before .before .before .before .before .before .before .args .u) (c .before .before .before .before .record-in .result) (c .before .before .v .given .0 .0) (c .before .before .v .given .0 .1 .0) (c .before .before .v .given .0 .1 .1 .0) (c .before .before .before .before .before .before .before .before .pre .1 .1) (c .before .before .before .before .record-in .ensures) (c .before .before .v .given .1) in search needs
 
--- src/lib.rt:104:1
 several-returns-2 : (t : ℕ) → several-lts.Need-returns-2 (
   record-in-below t,
   record-in.Post,
@@ -664,7 +618,6 @@ several-returns-2 : (t : ℕ) → several-lts.Need-returns-2 (
 ) (several-at t) several.Post
 several-returns-2 t c = several-fails (c .before .before .before .before .before .before .args .inner) (c .before .before .before .before .before .before .args .levels) (c .before .before .before .before .before .before .args .p .now) (c .before .before .before .before .before .before .args .left) (c .before .before .before .before .before .before .args .u) (c .before .before .before .before .before .before .args .m) (c .before .before .before .before .before .before .args .x) (c .before .before .before .before .if1 .left) (c .before .before .record-in .result) (c .before .before .record-in .ensures) (c .enum-told .given .1)
 
--- src/lib.rt:104:1
 several-returns-3 : (t : ℕ) → several-lts.Need-returns-3 (
   record-in-below t,
   record-in.Post,

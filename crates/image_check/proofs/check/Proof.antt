@@ -2,39 +2,28 @@ use Rattle.image_check.proofs.Ways.{over-long, image-good, image-many, 
 use borrow.Author.Needs.{needs}
 use Rattle.image_check.proofs.check.Statement.{statement}
 use Rattle.image_check.proofs.check.Tie as tie
-use Rattle.image_check.proofs.check.Reads as reads
-use Rattle.image_check.proofs.check.Lts as lts
-use Rattle.image_check.proofs.record_in.Reads as record-in-reads
 
--- src/lib.rt:123:9
 returns : tie.Need-returns
 returns c = over-long (c .before .before .args .inner) (c .before .before .args .s .now) (c .if1 .taken)
 
--- src/lib.rt:125:11
 record-in-requires : tie.Need-record-in-requires
 record-in-requires c κs = search needs
 
--- src/lib.rt:126:27
 enum-told : tie.Need-enum-told
 enum-told c = search needs
 
--- src/lib.rt:127:23
 enum-known-u : tie.Need-enum-known-u
 enum-known-u c = search needs
 
--- src/lib.rt:130:21
 returns-2 : tie.Need-returns-2
 returns-2 c = image-good (c .before .before .before .before .before .before .before .before .args .inner) (c .before .before .before .before .before .before .before .before .args .s .now) (c .before .before .before .before .before .before .if1 .left) (c .before .before .before .before .before .record-in .result) (c .before .before .before .before .before .record-in .ensures) (c .before .before .before .u .given .0 .0) (c .before .before .before .u .given .0 .1 .0) (c .before .before .before .u .given .0 .1 .1 .0) (c .before .before .before .u .given .1) (c .before .if2 .taken) (c .if3 .taken)
 
--- src/lib.rt:132:17
 returns-3 : tie.Need-returns-3
 returns-3 c = image-many (c .before .before .before .before .before .before .before .before .args .inner) (c .before .before .before .before .before .before .before .before .args .s .now) (c .before .before .before .before .before .before .if1 .left) (c .before .before .before .before .before .record-in .result) (c .before .before .before .before .before .record-in .ensures) (c .before .before .before .u .given .0 .0) (c .before .before .before .u .given .0 .1 .0) (c .before .before .before .u .given .0 .1 .1 .0) (c .before .before .before .u .given .1) (c .before .if2 .taken) (c .if3 .left)
 
--- src/lib.rt:119:1
 returns-4 : tie.Need-returns-4
 returns-4 c = no-record (c .before .before .before .before .before .args .inner) (c .before .before .before .before .before .args .s .now) (c .before .before .before .if1 .left) (c .before .before .record-in .result) (c .before .before .record-in .ensures) (c .enum-told .given .1)
 
--- src/lib.rt:119:1
 returns-5 : tie.Need-returns-5
 returns-5 c = image-trails (c .before .before .before .before .before .before .before .args .inner) (c .before .before .before .before .before .before .before .args .s .now) (c .before .before .before .before .before .if1 .left) (c .before .before .before .before .record-in .result) (c .before .before .before .before .record-in .ensures) (c .before .before .u .given .0 .0) (c .before .before .u .given .0 .1 .0) (c .before .before .u .given .0 .1 .1 .0) (c .before .before .u .given .1) (c .if2 .left)
 

@@ -2,18 +2,13 @@ use Rattle.image_check.proofs.Ways.{constant-fits, constant-fails}
 use borrow.Author.Needs.{needs}
 use Rattle.image_check.proofs.constant_in.Statement.{statement}
 use Rattle.image_check.proofs.constant_in.Tie as tie
-use Rattle.image_check.proofs.constant_in.Reads as reads
-use Rattle.image_check.proofs.constant_in.Lts as lts
 
--- src/lib.rt:35:30
 add-t5 : tie.Need-add-t5
 add-t5 c = search needs
 
--- src/lib.rt:35:9
 returns : tie.Need-returns
 returns c = constant-fits (c .before .args .p .now) (c .if1 .taken)
 
--- src/lib.rt:31:1
 returns-2 : tie.Need-returns-2
 returns-2 c = constant-fails (c .before .args .p .now) (c .if1 .left)
 

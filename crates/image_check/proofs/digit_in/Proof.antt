@@ -1,24 +1,17 @@
 use Rattle.image_check.proofs.Ways.{digit-fits, digit-high, digit-size}
 use native.Mathlib.Omega.{arith}
-use borrow.Author.Needs.{needs}
 use Rattle.image_check.proofs.digit_in.Statement.{statement}
 use Rattle.image_check.proofs.digit_in.Tie as tie
-use Rattle.image_check.proofs.digit_in.Reads as reads
-use Rattle.image_check.proofs.digit_in.Lts as lts
 
--- src/lib.rt:45:12
 shared-slice-read-if2 : tie.Need-shared-slice-read-if2
 shared-slice-read-if2 c = omega (arith, c .before .if1 .taken)
 
--- src/lib.rt:46:13
 returns : tie.Need-returns
 returns c = digit-fits (c .before .before .before .args .top) (c .before .before .before .args .p .now) (c .before .before .if1 .taken) (c .if2 .taken)
 
--- src/lib.rt:41:1
 returns-2 : tie.Need-returns-2
 returns-2 c = digit-high (c .before .before .before .args .top) (c .before .before .before .args .p .now) (c .before .before .if1 .taken) (c .if2 .left)
 
--- src/lib.rt:41:1
 returns-3 : tie.Need-returns-3
 returns-3 c = digit-size (c .before .args .top) (c .before .args .p .now) (c .if1 .left)
 

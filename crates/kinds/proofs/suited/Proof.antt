@@ -2,18 +2,13 @@ use Rattle.kinds.proofs.Needs.{above, not-above}
 use borrow.Author.Needs.{needs}
 use Rattle.kinds.proofs.suited.Statement.{statement}
 use Rattle.kinds.proofs.suited.Tie as tie
-use Rattle.kinds.proofs.suited.Reads as reads
-use Rattle.kinds.proofs.suited.Lts as lts
 
--- src/lib.rt:46:16
 sub-result : tie.Need-sub-result
 sub-result c = search needs
 
--- src/lib.rt:46:9
 returns : tie.Need-returns
 returns c = above (c .before .args .kind) (c .before .args .k) (c .if1 .taken)
 
--- src/lib.rt:42:1
 returns-2 : tie.Need-returns-2
 returns-2 c = not-above (c .before .args .kind) (c .before .args .k) (c .if1 .left)
 

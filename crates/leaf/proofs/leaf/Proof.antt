@@ -2,43 +2,31 @@ use Rattle.leaf.proofs.Ways.{from-image, from-list, from-nowhere}
 use borrow.Author.Needs.{needs}
 use Rattle.leaf.proofs.leaf.Statement.{statement}
 use Rattle.leaf.proofs.leaf.Tie as tie
-use Rattle.leaf.proofs.leaf.Reads as reads
-use Rattle.leaf.proofs.leaf.Lts as lts
-use Rattle.leaf.proofs.part.Reads as part-reads
 
--- src/lib.rt:72:22
 enum-known-place : tie.Need-enum-known-place
 enum-known-place c = search needs
 
--- src/lib.rt:72:35
 part-requires : tie.Need-part-requires
 part-requires c κs = search needs
 
--- src/lib.rt:73:21
 enum-known-place-2 : tie.Need-enum-known-place-2
 enum-known-place-2 c = search needs
 
--- src/lib.rt:73:34
 part-requires-2 : tie.Need-part-requires-2
 part-requires-2 c κs = search needs
 
--- src/lib.rt:74:27
 enum-told : tie.Need-enum-told
 enum-told c = search needs
 
--- src/lib.rt:74:27
 slice-aggregate-result : tie.Need-slice-aggregate-result
 slice-aggregate-result c = search needs
 
--- src/lib.rt:68:1
 returns : tie.Need-returns
 returns c = from-image (c .before .before .before .before .before .before .args .image .now) (c .before .before .before .before .before .before .args .list .now) (c .part .result .now) (c .before .before .before .before .before .before .args .place) (c .before .before .place .given .0 .0) (c .before .before .place .given .0 .1 .0) (c .before .before .place .given .1) (c .part .ensures)
 
--- src/lib.rt:68:1
 returns-2 : tie.Need-returns-2
 returns-2 c = from-list (c .before .before .before .before .before .before .args .image .now) (c .before .before .before .before .before .before .args .list .now) (c .part2 .result .now) (c .before .before .before .before .before .before .args .place) (c .before .before .place2 .given .0 .0) (c .before .before .place2 .given .0 .1 .0) (c .before .before .place2 .given .1) (c .part2 .ensures)
 
--- src/lib.rt:68:1
 returns-3 : tie.Need-returns-3
 returns-3 c = from-nowhere (c .before .before .before .before .before .args .image .now) (c .before .before .before .before .before .args .list .now) (c .before .before .before .before .before .args .place) (c .before .enum-told .given .1)
 

@@ -2,54 +2,40 @@ use Rattle.leaf.proofs.Ways.{part-none, part-rest, part-whole}
 use borrow.Author.Needs.{needs}
 use Rattle.leaf.proofs.part.Statement.{statement}
 use Rattle.leaf.proofs.part.Tie as tie
-use Rattle.leaf.proofs.part.Reads as reads
-use Rattle.leaf.proofs.part.Lts as lts
 
--- src/lib.rt:58:9
 slice-aggregate-result : tie.Need-slice-aggregate-result
 slice-aggregate-result c = search needs
 
--- src/lib.rt:58:9
 returns : tie.Need-returns
 returns c = part-none (c .before .before .args .s .now) (c .before .before .args .start) (c .before .before .args .n) (c .before .if1 .taken)
 
--- src/lib.rt:60:8
 sub-if2 : tie.Need-sub-if2
 sub-if2 c = search needs
 
--- src/lib.rt:61:16
 sub-result : tie.Need-sub-result
 sub-result c = search needs
 
--- src/lib.rt:61:16
 part-result-start : tie.Need-part-result-start
 part-result-start c = search needs
 
--- src/lib.rt:61:16
 part-result-end : tie.Need-part-result-end
 part-result-end c = search needs
 
--- src/lib.rt:61:9
 returns-2 : tie.Need-returns-2
 returns-2 c = part-rest (c .before .before .before .args .s .now) (c .before .before .before .args .start) (c .before .before .before .args .n) (c .before .if2 .taken)
 
--- src/lib.rt:63:13
 add-e : tie.Need-add-e
 add-e c = search needs
 
--- src/lib.rt:64:5
 sub-result-2 : tie.Need-sub-result-2
 sub-result-2 c = search needs
 
--- src/lib.rt:64:5
 part-result-start-2 : tie.Need-part-result-start-2
 part-result-start-2 c = search needs
 
--- src/lib.rt:64:5
 part-result-end-2 : tie.Need-part-result-end-2
 part-result-end-2 c = search needs
 
--- src/lib.rt:54:1
 returns-3 : tie.Need-returns-3
 returns-3 c = part-whole (c .before .before .before .args .s .now) (c .before .before .before .args .start) (c .before .before .before .args .n)
 

@@ -2,35 +2,25 @@ use Rattle.listing.proofs.Entries.{at-end, at-record, at-cut}
 use borrow.Author.Needs.{needs}
 use Rattle.listing.proofs.entry_at.Statement.{statement}
 use Rattle.listing.proofs.entry_at.Tie as tie
-use Rattle.listing.proofs.entry_at.Reads as reads
-use Rattle.listing.proofs.entry_at.Lts as lts
-use Rattle.heads.proofs.head_at.Reads as head-at-reads
 
--- src/lib.rt:28:9
 returns : tie.Need-returns
 returns c = at-end (c .before .before .args .s .now) (c .before .before .args .at) (c .if1 .taken)
 
--- src/lib.rt:30:11
 head-at-requires : tie.Need-head-at-requires
 head-at-requires c κs = search needs
 
--- src/lib.rt:31:22
 enum-known-k : tie.Need-enum-known-k
 enum-known-k c = search needs
 
--- src/lib.rt:31:44
 add-t9 : tie.Need-add-t9
 add-t9 c = search needs
 
--- src/lib.rt:32:22
 enum-told : tie.Need-enum-told
 enum-told c = search needs
 
--- src/lib.rt:24:1
 returns-2 : tie.Need-returns-2
 returns-2 c = at-record (c .before .before .before .before .before .before .args .s .now) (c .before .before .before .before .before .before .args .at) (c .before .k .given .0 .0) (c .before .k .given .0 .1 .0) (c .before .before .before .head-at .result) (c .before .before .before .before .if1 .left) (c .before .before .before .head-at .ensures) (c .before .k .given .1)
 
--- src/lib.rt:24:1
 returns-3 : tie.Need-returns-3
 returns-3 c = at-cut (c .before .before .before .before .before .args .s .now) (c .before .before .before .before .before .args .at) (c .before .before .head-at .result) (c .before .before .before .if1 .left) (c .before .before .head-at .ensures) (c .enum-told .given .1)
 

@@ -7,10 +7,6 @@ use Prim.Native.Nat.{_-_}
 use lib.ListN.{length}
 use Rattle.listing.proofs.good.Statement.{statement}
 use Rattle.listing.proofs.good.Tie as tie
-use Rattle.listing.proofs.good.Reads as reads
-use Rattle.listing.proofs.good.Lts as lts
-use Rattle.listing.proofs.entry_of.Reads as entry-of-reads
-use Rattle.listing.proofs.slot.Reads as slot-reads
 
 abbrev Inv-loop : tie.InvT-loop
 Inv-loop s run seen₀ at₀ seen at = Before run s seen at
@@ -18,67 +14,51 @@ Inv-loop s run seen₀ at₀ seen at = Before run s seen at
 abbrev μ-loop : tie.MeasureT-loop
 μ-loop s run seen₀ at₀ seen at = length s - at
 
--- src/lib.rt:95:5
 loop-holds : tie.Need-loop-holds Inv-loop μ-loop
 loop-holds c = walking-starts (c .before .args .run) (c .before .args .s .now)
 
--- src/lib.rt:96:15
 entry-of-requires : tie.Need-entry-of-requires Inv-loop μ-loop
 entry-of-requires c κs = search needs
 
--- src/lib.rt:97:23
 enum-known-k : tie.Need-enum-known-k Inv-loop μ-loop
 enum-known-k c = search needs
 
--- src/lib.rt:98:21
 slot-requires : tie.Need-slot-requires Inv-loop μ-loop
 slot-requires c κs = search needs
 
--- src/lib.rt:100:21
 returns : tie.Need-returns Inv-loop μ-loop
 returns c = good-other (c .before .before .before .before .before .before .before .before .args .run) (c .before .before .before .before .before .before .before .before .args .s .now) (c .before .before .before .before .before .before .loop .seen) (c .before .before .before .before .before .before .loop .at) (c .before .before .before .before .before .before .loop .inv) (c .before .before .before .k .given .0 .0) (c .before .before .before .k .given .0 .1 .0) (c .before .before .before .k .given .0 .1 .1 .0) (c .before .slot .result) (entry-holds (c .before .before .before .before .before .before .before .before .args .s .now) (c .before .before .before .before .before .before .loop .at) (c .before .before .before .k .given .0 .0) (c .before .before .before .k .given .0 .1 .0) (c .before .before .before .k .given .0 .1 .1 .0) (sym (c .before .before .before .before .before .entry-of .ensures) ∙ c .before .before .before .k .given .1)) (c .before .slot .ensures) (c .if1 .taken)
 
--- src/lib.rt:102:20
 array-read-if2 : tie.Need-array-read-if2 Inv-loop μ-loop
 array-read-if2 c = omega (arith, c .before .before .before .before .before .before .loop .inv .sized, c .if1 .left)
 
--- src/lib.rt:103:21
 returns-2 : tie.Need-returns-2 Inv-loop μ-loop
 returns-2 c = good-twice (c .before .before .before .before .before .before .before .before .before .args .run) (c .before .before .before .before .before .before .before .before .before .args .s .now) (c .before .before .before .before .before .before .before .loop .seen) (c .before .before .before .before .before .before .before .loop .at) (c .before .before .before .before .before .before .before .loop .inv) (c .before .before .before .before .k .given .0 .0) (c .before .before .before .before .k .given .0 .1 .0) (c .before .before .before .before .k .given .0 .1 .1 .0) (c .before .before .slot .result) (entry-holds (c .before .before .before .before .before .before .before .before .before .args .s .now) (c .before .before .before .before .before .before .before .loop .at) (c .before .before .before .before .k .given .0 .0) (c .before .before .before .before .k .given .0 .1 .0) (c .before .before .before .before .k .given .0 .1 .1 .0) (sym (c .before .before .before .before .before .before .entry-of .ensures) ∙ c .before .before .before .before .k .given .1)) (c .before .before .slot .ensures) (c .before .if1 .left) (c .if2 .taken)
 
--- src/lib.rt:106:21
 returns-3 : tie.Need-returns-3 Inv-loop μ-loop
 returns-3 c = good-long (c .before .before .before .before .before .before .before .before .before .before .args .run) (c .before .before .before .before .before .before .before .before .before .before .args .s .now) (c .before .before .before .before .before .before .before .before .loop .seen) (c .before .before .before .before .before .before .before .before .loop .at) (c .before .before .before .before .before .before .before .before .loop .inv) (c .before .before .before .before .before .k .given .0 .0) (c .before .before .before .before .before .k .given .0 .1 .0) (c .before .before .before .before .before .k .given .0 .1 .1 .0) (c .before .before .before .slot .result) (entry-holds (c .before .before .before .before .before .before .before .before .before .before .args .s .now) (c .before .before .before .before .before .before .before .before .loop .at) (c .before .before .before .before .before .k .given .0 .0) (c .before .before .before .before .before .k .given .0 .1 .0) (c .before .before .before .before .before .k .given .0 .1 .1 .0) (sym (c .before .before .before .before .before .before .before .entry-of .ensures) ∙ c .before .before .before .before .before .k .given .1)) (c .before .before .before .slot .ensures) (c .before .before .if1 .left) (c .before .if2 .left) (c .if3 .taken)
 
--- src/lib.rt:108:17
 array-write-seen : tie.Need-array-write-seen Inv-loop μ-loop
 array-write-seen c = omega (arith, c .before .before .before .before .before .before .before .before .loop .inv .sized, c .before .before .if1 .left)
 
--- src/lib.rt:109:22
 add-at : tie.Need-add-at Inv-loop μ-loop
 add-at c = omega (arith, goes-on (c .before .before .before .before .before .before .before .before .before .before .args .s .now) (c .before .before .before .before .before .before .before .before .loop .at) (c .before .before .before .before .before .k .given .0 .0) (c .before .before .before .before .before .k .given .0 .1 .0) (c .before .before .before .before .before .k .given .0 .1 .1 .0) (entry-holds (c .before .before .before .before .before .before .before .before .before .before .args .s .now) (c .before .before .before .before .before .before .before .before .loop .at) (c .before .before .before .before .before .k .given .0 .0) (c .before .before .before .before .before .k .given .0 .1 .0) (c .before .before .before .before .before .k .given .0 .1 .1 .0) (sym (c .before .before .before .before .before .before .before .entry-of .ensures) ∙ c .before .before .before .before .before .k .given .1)) .1, c .before .before .before .before .before .before .before .before .before .before .good)
 
--- src/lib.rt:95:5
 loop-less : tie.Need-loop-less Inv-loop μ-loop
 loop-less c = let g = goes-on (c .before .before .before .before .before .before .before .before .before .before .args .s .now) (c .before .before .before .before .before .before .before .before .loop .at) (c .before .before .before .before .before .k .given .0 .0) (c .before .before .before .before .before .k .given .0 .1 .0) (c .before .before .before .before .before .k .given .0 .1 .1 .0) (entry-holds (c .before .before .before .before .before .before .before .before .before .before .args .s .now) (c .before .before .before .before .before .before .before .before .loop .at) (c .before .before .before .before .before .k .given .0 .0) (c .before .before .before .before .before .k .given .0 .1 .0) (c .before .before .before .before .before .k .given .0 .1 .1 .0) (sym (c .before .before .before .before .before .before .before .entry-of .ensures) ∙ c .before .before .before .before .before .k .given .1)) in omega (arith, g .0, g .1)
 
--- src/lib.rt:95:5
 loop-again : tie.Need-loop-again Inv-loop μ-loop
 loop-again c = good-step (c .before .before .before .before .before .before .before .before .before .before .args .run) (c .before .before .before .before .before .before .before .before .before .before .args .s .now) (c .before .before .before .before .before .before .before .before .loop .seen) (c .before .before .before .before .before .before .before .before .loop .at) (c .before .before .before .before .before .before .before .before .loop .inv) (c .before .before .before .before .before .k .given .0 .0) (c .before .before .before .before .before .k .given .0 .1 .0) (c .before .before .before .before .before .k .given .0 .1 .1 .0) (c .before .before .before .slot .result) (entry-holds (c .before .before .before .before .before .before .before .before .before .before .args .s .now) (c .before .before .before .before .before .before .before .before .loop .at) (c .before .before .before .before .before .k .given .0 .0) (c .before .before .before .before .before .k .given .0 .1 .0) (c .before .before .before .before .before .k .given .0 .1 .1 .0) (sym (c .before .before .before .before .before .before .before .entry-of .ensures) ∙ c .before .before .before .before .before .k .given .1)) (c .before .before .before .slot .ensures) (c .before .before .if1 .left) (c .before .if2 .left) (c .if3 .left)
 
--- src/lib.rt:111:27
 enum-told : tie.Need-enum-told Inv-loop μ-loop
 enum-told c = search needs
 
--- src/lib.rt:111:27
 returns-4 : tie.Need-returns-4 Inv-loop μ-loop
 returns-4 c = good-end (c .before .before .before .before .before .args .run) (c .before .before .before .before .before .args .s .now) (c .before .before .before .loop .seen) (c .before .before .before .loop .at) (c .before .before .before .loop .inv) (entry-end (c .before .before .before .before .before .args .s .now) (c .before .before .before .loop .at) (sym (c .before .before .entry-of .ensures) ∙ c .enum-told .given .1))
 
--- src/lib.rt:112:27
 enum-told-2 : tie.Need-enum-told-2 Inv-loop μ-loop
 enum-told-2 c = search needs
 
--- src/lib.rt:112:27
 returns-5 : tie.Need-returns-5 Inv-loop μ-loop
 returns-5 c = good-cut (c .before .before .before .before .before .args .run) (c .before .before .before .before .before .args .s .now) (c .before .before .before .loop .seen) (c .before .before .before .loop .at) (c .before .before .before .loop .inv) (entry-cuts (c .before .before .before .before .before .args .s .now) (c .before .before .before .loop .at) (sym (c .before .before .entry-of .ensures) ∙ c .enum-told2 .given .1))
 

@@ -1,15 +1,10 @@
-use borrow.Author.Needs.{needs}
 use Rattle.listing.proofs.Slots.{from-low, below-low}
 use Rattle.listing.proofs.is_between.Statement.{statement}
 use Rattle.listing.proofs.is_between.Tie as tie
-use Rattle.listing.proofs.is_between.Reads as reads
-use Rattle.listing.proofs.is_between.Lts as lts
 
--- src/lib.rt:40:9
 returns : tie.Need-returns
 returns c = from-low (c .before .args .lo) (c .before .args .hi) (c .before .args .k) (c .if1 .taken)
 
--- src/lib.rt:36:1
 returns-2 : tie.Need-returns-2
 returns-2 c = below-low (c .before .args .lo) (c .before .args .hi) (c .before .args .k) (c .if1 .left)
 

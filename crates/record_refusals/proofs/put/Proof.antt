@@ -1,13 +1,9 @@
 use borrow.Author.Needs.{needs}
-use Prim.Native.Nat.{_≤_, _-_, _+_}
+use Prim.Native.Nat.{_≤_, _-_}
 use lib.ListN.{length}
-use native.Mathlib.Omega.{arith}
 use mathlib.Core.Path.{_≡_}
 use Rattle.record_refusals.proofs.put.Statement.{statement}
 use Rattle.record_refusals.proofs.put.Tie as tie
-use Rattle.record_refusals.proofs.put.Reads as reads
-use Rattle.record_refusals.proofs.put.Lts as lts
-use Rattle.record_refusals.proofs.end_of.Reads as end-of-reads
 
 abbrev Inv-loop : tie.InvT-loop
 Inv-loop out₀ o b n e at₀ out at = (at ≤ e) × (e ≤ length out) × (length out ≡ length out₀)
@@ -15,35 +11,27 @@ Inv-loop out₀ o b n e at₀ out at = (at ≤ e) × (e ≤ length out) × (leng
 abbrev μ-loop : tie.MeasureT-loop
 μ-loop out₀ o b n e at₀ out at = e - at
 
--- src/main.rt:70:9
 end-of-requires : tie.Need-end-of-requires Inv-loop μ-loop
 end-of-requires c κs = search needs
 
--- src/main.rt:72:5
 loop-holds : tie.Need-loop-holds Inv-loop μ-loop
 loop-holds c = search needs
 
--- src/main.rt:73:9
 slice-write-out : tie.Need-slice-write-out Inv-loop μ-loop
 slice-write-out c = search needs
 
--- src/main.rt:74:9
 add-at : tie.Need-add-at Inv-loop μ-loop
 add-at c = search needs
 
--- src/main.rt:72:5
 loop-less : tie.Need-loop-less Inv-loop μ-loop
 loop-less c = search needs
 
--- src/main.rt:72:5
 loop-again : tie.Need-loop-again Inv-loop μ-loop
 loop-again c = search needs
 
--- src/main.rt:66:1
 same-length : tie.Need-same-length Inv-loop μ-loop
 same-length c = search needs
 
--- src/main.rt:66:1
 returns : tie.Need-returns Inv-loop μ-loop
 returns c = search needs
 

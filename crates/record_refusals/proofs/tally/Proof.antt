@@ -2,15 +2,8 @@ use borrow.Author.Needs.{needs}
 use Prim.Native.Nat.{_≤_, _-_, _+_}
 use lib.ListN.{length}
 use native.Mathlib.Omega.{arith}
-use mathlib.Core.Path.{_≡_}
 use Rattle.record_refusals.proofs.tally.Statement.{statement}
 use Rattle.record_refusals.proofs.tally.Tie as tie
-use Rattle.record_refusals.proofs.tally.Reads as reads
-use Rattle.record_refusals.proofs.tally.Lts as lts
-use Rattle.io.proofs.print_decimal.Reads as print-decimal-reads
-use Rattle.io.proofs.write_all.Reads as write-all-reads
-use Rattle.record_refusals.proofs.line_end.Reads as line-end-reads
-use Rattle.record_refusals.proofs.row.Reads as row-reads
 
 abbrev Inv-loop : tie.InvT-loop
 Inv-loop s at₀ rows₀ as-due₀ t6 t7 at rows as-due = (at ≤ length s + 1) × (rows ≤ at) × (as-due ≤ rows)
@@ -18,75 +11,57 @@ Inv-loop s at₀ rows₀ as-due₀ t6 t7 at rows as-due = (at ≤ length s + 1) 
 abbrev μ-loop : tie.MeasureT-loop
 μ-loop s at₀ rows₀ as-due₀ t6 t7 at rows as-due = length s - at
 
--- src/main.rt:168:5
 loop-holds : tie.Need-loop-holds Inv-loop μ-loop
 loop-holds c = search needs
 
--- src/main.rt:169:13
 line-end-requires : tie.Need-line-end-requires Inv-loop μ-loop
 line-end-requires c κs = search needs
 
--- src/main.rt:170:9
 add-rows : tie.Need-add-rows Inv-loop μ-loop
 add-rows c = search needs
 
--- src/main.rt:171:23
 sub-row : tie.Need-sub-row Inv-loop μ-loop
 sub-row c = search needs
 
--- src/main.rt:171:23
 part-row-start : tie.Need-part-row-start Inv-loop μ-loop
 part-row-start c = search needs
 
--- src/main.rt:171:23
 part-row-end : tie.Need-part-row-end Inv-loop μ-loop
 part-row-end c = search needs
 
--- src/main.rt:171:19
 row-requires : tie.Need-row-requires Inv-loop μ-loop
 row-requires c κs = search needs
 
--- src/main.rt:171:9
 add-as-due : tie.Need-add-as-due Inv-loop μ-loop
 add-as-due c = omega (arith, c .row .ensures, c .before .before .before .before .loop .inv)
 
--- src/main.rt:172:14
 add-at : tie.Need-add-at Inv-loop μ-loop
 add-at c = search needs
 
--- src/main.rt:168:5
 loop-less : tie.Need-loop-less Inv-loop μ-loop
 loop-less c = search needs
 
--- src/main.rt:168:5
 loop-again : tie.Need-loop-again Inv-loop μ-loop
 loop-again c = (omega (arith, c .before .before .line-end .ensures), omega (arith, c .before .before .line-end .ensures, c .before .before .before .before .loop .inv), omega (arith, c .row .ensures, c .before .before .before .before .loop .inv))
 
--- src/main.rt:174:5
 print-decimal-requires : tie.Need-print-decimal-requires Inv-loop μ-loop
 print-decimal-requires c κs = search needs
 
--- src/main.rt:175:22
 slice-aggregate-write-all : tie.Need-slice-aggregate-write-all Inv-loop μ-loop
 slice-aggregate-write-all c = search needs
 
--- src/main.rt:175:5
 write-all-requires : tie.Need-write-all-requires Inv-loop μ-loop
 write-all-requires c κs = search needs
 
--- src/main.rt:176:5
 print-decimal-requires-2 : tie.Need-print-decimal-requires-2 Inv-loop μ-loop
 print-decimal-requires-2 c κs = search needs
 
--- src/main.rt:177:22
 slice-aggregate-write-all-2 : tie.Need-slice-aggregate-write-all-2 Inv-loop μ-loop
 slice-aggregate-write-all-2 c = search needs
 
--- src/main.rt:177:5
 write-all-requires-2 : tie.Need-write-all-requires-2 Inv-loop μ-loop
 write-all-requires-2 c κs = search needs
 
--- src/main.rt:162:1
 returns : tie.Need-returns Inv-loop μ-loop
 returns c = search needs
 
