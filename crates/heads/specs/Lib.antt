@@ -1,0 +1,2 @@
+-- Heads of records.
+pub mod Head

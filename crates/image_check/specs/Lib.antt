@@ -1,0 +1,2 @@
+-- What the image check counts.
+pub mod Check

@@ -1,0 +1,3 @@
+-- Laws of kinds.
+pub mod Quick
+pub mod Needs

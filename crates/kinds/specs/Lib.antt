@@ -1,0 +1,2 @@
+-- What a call's kind tells.
+pub mod Tables

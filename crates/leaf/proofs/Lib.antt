@@ -1,0 +1,3 @@
+-- Laws of leaves.
+pub mod Ways
+pub mod Leaves

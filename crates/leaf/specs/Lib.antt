@@ -1,0 +1,2 @@
+-- Where leaves' values stand.
+pub mod Place

@@ -1,0 +1,3 @@
+-- Walking a list.
+pub mod Walk
+pub mod Find
