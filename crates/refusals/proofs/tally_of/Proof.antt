@@ -1,8 +1,8 @@
 use borrow.Author.Needs.{needs}
 use Prim.Native.Nat.{_+_, _-_, _≤_}
 use lib.ListN.{length}
-use Rattle.text_refusals.proofs.tally_of.Statement.{statement}
-use Rattle.text_refusals.proofs.tally_of.Tie as tie
+use Rattle.refusals.proofs.tally_of.Statement.{statement}
+use Rattle.refusals.proofs.tally_of.Tie as tie
 
 abbrev Inv-loop : tie.InvT-loop
 Inv-loop s rows₀ good₀ p₀ rows good p = (rows ≤ p) × (good ≤ rows) × (p ≤ length s + 1)

@@ -1,5 +1,8 @@
-// Reads a table of texts with the number and the place due for each, and prints a tally.
-// A row is `t NUMBER PLACE TEXT`; or `u NUMBER PLACE BOUND TEXT`, BOUND four figures, 1 where `#0` to `#3` have a value.
+// Reads a table of texts, lists and images with the number and the place due for each, and prints a tally.
+// A row of a text is `t NUMBER PLACE TEXT`; or `u NUMBER PLACE BOUND TEXT`, BOUND four figures, 1 where `#0` to `#3` have a value.
+// A row that starts with P, R or I is a list or an image: module rows.
+mod rows;
+
 ghost use Prim.Native.Nat.{_+_, _≤_};
 ghost use lib.ListN.{length};
 use text_reader::Parsed;
@@ -120,12 +123,28 @@ fn same(a: Answer, number: usize, place: usize) -> usize
     1
 }
 
+// The same for a row of a list or an image.
+fn record_due(line: &[u8]) -> usize
+    ensures { λ r. ⌜ r ≤ 1 ⌝ }
+{
+    if 65536 < line.len() {
+        return 0;
+    }
+    if rows::right(line) {
+        return 1;
+    }
+    0
+}
+
 // 1 where the row's answer is the one due.
 fn as_due(line: &[u8]) -> usize
     ensures { λ r. ⌜ r ≤ 1 ⌝ }
 {
     if line.len() < 2 {
         return 0;
+    }
+    if line[0] < b'a' {
+        return record_due(line);
     }
     let n = figure_at(line, 2);
     let first = n.next;
@@ -165,7 +184,7 @@ fn tally_of(s: &[u8]) -> Tally {
 }
 
 fn main() {
-    let mut buffer = io::large_buffer();
+    let mut buffer = [0u8; 98304];
     let n = io::read_full(0, &mut buffer);
     let t = tally_of(&buffer[..n]);
     io::print_decimal(1, t.rows as u64);

@@ -5,8 +5,8 @@ use Prim.Native.Nat.{_-_, _≤_}
 use lib.ListN.{length}
 use native.Mathlib.Omega.{arith}
 use mathlib.Core.Path.{_≡_}
-use Rattle.text_refusals.proofs.figure_at.Statement.{statement}
-use Rattle.text_refusals.proofs.figure_at.Tie as tie
+use Rattle.refusals.proofs.figure_at.Statement.{statement}
+use Rattle.refusals.proofs.figure_at.Tie as tie
 
 abbrev Inv-loop : tie.InvT-loop
 Inv-loop s p v₀ i₀ d₀ v i d = (i ≤ length s) × (d ≡ digitAt s i)

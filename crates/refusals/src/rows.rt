@@ -1,4 +1,4 @@
-// Runs the lists and images of a table through the code, and counts the rows whose answer is the number due.
+// Rows of lists and images.
 // A row: P (a list for preparing), R (a list for running) or I (an image); the number due, for a good image the tables that it needs; a blank; the bytes.
 // A byte is two digits; *hhhh after it says how often it stands there.
 ghost use Prim.Native.Nat.{_≤_, _<_};
@@ -118,7 +118,8 @@ fn answer(kind: u8, s: &[u8]) -> u8 {
     0x27
 }
 
-fn right(line: &[u8]) -> bool
+// Whether the row's answer is the number due.
+pub fn right(line: &[u8]) -> bool
     requires { ⌜ length (now line) ≤ 65536 ⌝ }
 {
     if line.len() < 4 {
@@ -127,57 +128,4 @@ fn right(line: &[u8]) -> bool
     let mut out = [0u8; 16400];
     let n = expand(&line[4..], &mut out);
     answer(line[0], &out[..n]) == byte_at(line, 1)
-}
-
-// 1 for a row whose answer is as due; another is written out.
-fn row(line: &[u8]) -> u64
-    requires { ⌜ length (now line) ≤ 65536 ⌝ }
-    ensures { λ r. ⌜ r ≤ 1 ⌝ }
-{
-    if right(line) {
-        return 1;
-    }
-    io::write_all(1, b"differs: ");
-    io::write_all(1, line);
-    io::write_all(1, b"\n");
-    0
-}
-
-// Where the line that starts at a place ends.
-fn line_end(s: &[u8], at: usize) -> usize
-    requires { ⌜ at < length (now s) ⌝ }
-    ensures { λ r. ⌜ (at ≤ r) × (r ≤ length (now (s .entry))) ⌝ }
-{
-    let mut e = at;
-    while e < s.len() {
-        if s[e] == b'\n' {
-            return e;
-        }
-        e += 1;
-    }
-    e
-}
-
-fn tally(s: &[u8])
-    requires { ⌜ length (now s) ≤ 65536 ⌝ }
-{
-    let mut at: usize = 0;
-    let mut rows: u64 = 0;
-    let mut as_due: u64 = 0;
-    while at < s.len() {
-        let e = line_end(s, at);
-        rows += 1;
-        as_due += row(&s[at..e]);
-        at = e + 1;
-    }
-    io::print_decimal(1, as_due);
-    io::write_all(1, b" of ");
-    io::print_decimal(1, rows);
-    io::write_all(1, b" rows as due\n");
-}
-
-fn main() {
-    let mut input = io::large_buffer();
-    let n = io::read_full(0, &mut input);
-    tally(&input[..n]);
 }

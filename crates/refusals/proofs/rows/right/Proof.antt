@@ -1,8 +1,8 @@
 use mathlib.Core.Path.{sym}
 use lib.Seq.{length-take-le}
 use borrow.Author.Needs.{needs}
-use Rattle.record_refusals.proofs.right.Statement.{statement}
-use Rattle.record_refusals.proofs.right.Tie as tie
+use Rattle.refusals.proofs.rows.right.Statement.{statement}
+use Rattle.refusals.proofs.rows.right.Tie as tie
 
 returns : tie.Need-returns
 returns c = search needs

@@ -1,14 +1,14 @@
 use borrow.Author.Needs.{needs}
-use Prim.Native.Nat.{_≤_, _-_}
+use Prim.Native.Nat.{_-_, _≤_}
 use lib.ListN.{length}
-use Rattle.record_refusals.proofs.line_end.Statement.{statement}
-use Rattle.record_refusals.proofs.line_end.Tie as tie
+use Rattle.refusals.proofs.line_end.Statement.{statement}
+use Rattle.refusals.proofs.line_end.Tie as tie
 
 abbrev Inv-loop : tie.InvT-loop
-Inv-loop s at e₀ e = (at ≤ e) × (e ≤ length s)
+Inv-loop s p i₀ i = (p ≤ i) × (i ≤ length s)
 
 abbrev μ-loop : tie.MeasureT-loop
-μ-loop s at e₀ e = length s - e
+μ-loop s p i₀ i = length s - i
 
 loop-holds : tie.Need-loop-holds Inv-loop μ-loop
 loop-holds c = search needs
@@ -19,8 +19,8 @@ shared-slice-read-if1 c = search needs
 returns : tie.Need-returns Inv-loop μ-loop
 returns c = search needs
 
-add-e : tie.Need-add-e Inv-loop μ-loop
-add-e c = search needs
+add-i : tie.Need-add-i Inv-loop μ-loop
+add-i c = search needs
 
 loop-less : tie.Need-loop-less Inv-loop μ-loop
 loop-less c = search needs
@@ -40,7 +40,7 @@ line-end-spec =
     loop-holds
     shared-slice-read-if1
     returns
-    add-e
+    add-i
     loop-less
     loop-again
     returns-2)
