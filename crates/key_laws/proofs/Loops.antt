@@ -11,9 +11,8 @@ use Rattle.common.proofs.Places.{length-tab}
 use Rattle.kalyna.specs.State.{columnsOf}
 use Rattle.field.specs.Xor.{xor}
 use Rattle.words.specs.Words.{wordAt, putWord, putWords}
-use Rattle.words.proofs.Walks.{length-puts}
+use Rattle.words.proofs.Walks.{length-puts, puts-more, puts-next}
 use Rattle.blocks.specs.Blocks.{Width, keysOf}
-use Rattle.blocks.proofs.Laws.{puts-more, puts-next}
 use Rattle.key_laws.specs.Stores.{Stored, Spread, Lane}
 use Rattle.key_laws.specs.Turns.{oddWord}
 use Rattle.key_laws.proofs.Stores.{stored-none, stored-more}

@@ -19,7 +19,7 @@ use Rattle.lookup.specs.Table.{gather, sealTable, openTable}
 use Rattle.lookup.proofs.Laws.{gather-ext}
 use Rattle.columns.proofs.Lookup.{eight}
 use Rattle.words.specs.Words.{wordAt, putWord, putWords, blockAt, Walked}
-use Rattle.words.proofs.Walks.{length-puts, puts-other, puts-at, walk-as, walk-then}
+use Rattle.words.proofs.Walks.{length-puts, puts-other, puts-at, walk-as, walk-then, puts-more, puts-next}
 use Rattle.kalyna.specs.Round.{subKey, xorKey, unmix, mix}
 use Rattle.kalyna.specs.Block.{moves}
 use Rattle.kalyna.proofs.Rows.{back}
@@ -27,7 +27,7 @@ use Rattle.kalyna.proofs.Undo.{mix-unmixed, unmix-state, unsubstitute-state}
 use Rattle.rounds.specs.Rounds.{looked, sealPlaces, openPlaces, keyAt, roundOf}
 use Rattle.rounds.proofs.Laws.{looked-open, places-two}
 use Rattle.blocks.specs.Blocks.{Width, keysOf}
-use Rattle.blocks.proofs.Laws.{block-column, puts-more, puts-next}
+use Rattle.blocks.proofs.Laws.{block-column}
 use Rattle.open_laws.specs.Opening.{openRound, openRounds, openWith, unmixed, swapped, Unmixed}
 use Rattle.open_laws.proofs.Swaps.{swapped-is}
 

@@ -6,8 +6,8 @@ use native.Mathlib.Omega.{arith}
 use lib.ListN.{getD, length}
 use denote.Ref.{now}
 use Rattle.words.specs.Words.{wordAt, putWords}
-use Rattle.words.proofs.Walks.{length-puts}
-use Rattle.blocks.proofs.Laws.{puts-more, puts-next, sub-is}
+use Rattle.words.proofs.Walks.{length-puts, puts-more, puts-next}
+use Rattle.blocks.proofs.Laws.{sub-is}
 use Rattle.open_laws.specs.Opening.{swapped}
 use Rattle.open_block.proofs.start_block.Statement.{statement}
 use Rattle.open_block.proofs.start_block.Tie as tie

@@ -6,8 +6,8 @@ use native.Mathlib.Omega.{arith}
 use lib.ListN.{getD, length}
 use denote.Ref.{now}
 use Rattle.words.specs.Words.{putWords}
-use Rattle.words.proofs.Walks.{length-puts}
-use Rattle.blocks.proofs.Laws.{puts-more, sub-is}
+use Rattle.words.proofs.Walks.{length-puts, puts-more}
+use Rattle.blocks.proofs.Laws.{sub-is}
 use Rattle.open_last.proofs.less_block.Statement.{statement}
 use Rattle.open_last.proofs.less_block.Tie as tie
 use Rattle.open_last.proofs.less_block.Reads as reads
