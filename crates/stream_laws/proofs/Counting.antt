@@ -3,6 +3,7 @@ use mathlib.Core.Path.{_≡_, refl, sym, ap, ap₂, _∙_, subst}
 use mathlib.Core.List.{List, [], _∷_, _++_}
 use Prim.Native.Nat.{ℕ, zero, suc, _+_, _-_, _*_, _/_, _%_, _^_, _<_, _≤_}
 use native.Mathlib.Nat.{mod-lt, div-one, pow-suc, pow-succ', div-div-eq-div-mul, zero-mul, zero-add, mul-zero, mul-add-div-right, mul-add-mod-self-right, not-suc-le-zero, mul-comm, mul-assoc, add-mul, add-assoc, one-mul}
+use native.Mathlib.Numerals.{add-one}
 use native.Mathlib.Omega.{arith}
 use lib.Arith.{mod-mul, digits-div, digits-mod}
 use lib.Pow.{pow-add}
@@ -178,3 +179,12 @@ count-is c e S x st q =
 pub counted-lt : (e : List ℕ) (x j : ℕ) → counted e x j < 2 ^ 64
 unfolding counted
 counted-lt e x j = mod-lt _ (omega arith)
+
+-- one more column, and what it carries
+pub counted-next : (e : List ℕ) (x j y more v : ℕ) → y ≡ wordAt e j → more ≡ carry (wordAt e) x j → v ≡ (y + more) % 2 ^ 64 → v ≡ counted e x j
+unfolding counted
+counted-next e x j y more v ey em ev = ev ∙ ap₂ (λ (a b : ℕ). (a + b) % 2 ^ 64) ey em
+
+pub carry-next : (e : List ℕ) (x j y more v : ℕ) → y ≡ wordAt e j → more ≡ carry (wordAt e) x j → v ≡ (y + more) / 2 ^ 64 → v ≡ carry (wordAt e) x (j + 1)
+unfolding carry
+carry-next e x j y more v ey em ev = ev ∙ ap₂ (λ (a b : ℕ). (a + b) / 2 ^ 64) ey em ∙ ap (carry (wordAt e) x) (sym (add-one j))

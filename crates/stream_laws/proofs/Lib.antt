@@ -2,4 +2,7 @@
 pub mod Out
 pub mod Cells
 pub mod Counting
+pub mod Widths
+pub mod Adding
 pub mod Modes
+pub mod Ends

@@ -105,3 +105,103 @@ pub fn ctr(tab: &[u8; 8192], ks: &[u64], c: usize, t: usize, iv: &[u8], text: &[
     ctr_gammas(tab, ks, c, t, iv, &mut e, &mut s, blocks_of(long, c));
     add_front(&s, text, out, 0, long);
 }
+
+// ---- section 11
+
+// q whole blocks; what is fed to the next block stays in the cell.
+fn ofb_whole(tab: &[u8; 8192], ks: &[u64], c: usize, t: usize, iv: &[u8], text: &[u8], e: &mut [u16], out: &mut [u8], q: usize)
+    requires { ⌜ (now tab ≡ sealTable) × Width c × (0 < t) × (t ≤ 18) × (c * (t + 1) ≤ length (now ks)) × (length (now iv) ≡ 8 * c) × (4 * c ≤ length (now e)) × (q * (8 * c) ≤ length (now text)) × (length (now text) ≤ length (now out)) ⌝ }
+    ensures { λ r. ⌜ (blockAt c (now (e .exit)) 0 ≡ columnsOf c (ofbFed (sealBytes c t (keysOf c (now (ks .entry)))) (now (iv .entry)) q)) × Written (added (8 * c) (Stream.ofbGamma (sealBytes c t (keysOf c (now (ks .entry)))) (now (iv .entry))) (Stream.front (8 * c)) (now (text .entry))) (q * (8 * c)) (now (out .entry)) (now (out .exit)) ⌝ }
+{
+    cells::load(e, 0, iv, 0, c);
+    let mut i: usize = 0;
+    let mut at: usize = 0;
+    while i < q {
+        seal_block::seal_blocks(tab, e, 1, c, t, ks);
+        cells::xor_out(e, 0, text, out, at, c);
+        at += 8 * c;
+        i += 1;
+    }
+}
+
+pub fn ofb(tab: &[u8; 8192], ks: &[u64], c: usize, t: usize, iv: &[u8], text: &[u8], out: &mut [u8])
+    requires { ⌜ (now tab ≡ sealTable) × Width c × (0 < t) × (t ≤ 18) × (c * (t + 1) ≤ length (now ks)) × (length (now iv) ≡ 8 * c) × (length (now text) ≤ 1024) × (length (now text) ≤ length (now out)) ⌝ }
+    ensures { λ r. ⌜ now (out .exit) ≡ Stream.ofb (8 * c) (sealBytes c t (keysOf c (now (ks .entry)))) (now (iv .entry)) (now (text .entry)) ++ drop (length (now (text .entry))) (now (out .entry)) ⌝ }
+{
+    let long = text.len();
+    let b = 8 * c;
+    let q = long / b;
+    let at = q * b;
+    let mut e = [0u16; 32];
+    ofb_whole(tab, ks, c, t, iv, text, &mut e, out, q);
+    if at == long {
+        return;
+    }
+    seal_block::seal_blocks(tab, &mut e, 1, c, t, ks);
+    add_front(&e, text, out, at, long - at);
+}
+
+// ---- section 8
+
+// The IV and the sealed blocks before the last, all sealed.
+fn uncfb_gammas(tab: &[u8; 8192], ks: &[u64], c: usize, t: usize, iv: &[u8], text: &[u8], s: &mut [u16], n: usize)
+    requires { ⌜ (now tab ≡ sealTable) × Width c × (0 < t) × (t ≤ 18) × (c * (t + 1) ≤ length (now ks)) × (length (now iv) ≡ 8 * c) × (0 < n) × ((n - 1) * (8 * c) ≤ length (now text)) × (4 * (c * n) ≤ length (now s)) ⌝ }
+    ensures { λ r. ⌜ Laid c n (λ i. seal c t (keysOf c (now (ks .entry))) (columnsOf c (Text.before (8 * c) (now (iv .entry)) (now (text .entry)) i))) (now (s .entry)) (now (s .exit)) ⌝ }
+{
+    cells::load(s, 0, iv, 0, c);
+    cells::load(s, c, text, 0, c * (n - 1));
+    seal_block::seal_blocks(tab, s, n, c, t, ks);
+}
+
+// A short last block takes the last bytes of its gamma.
+pub fn uncfb(tab: &[u8; 8192], ks: &[u64], c: usize, t: usize, iv: &[u8], text: &[u8], out: &mut [u8])
+    requires { ⌜ (now tab ≡ sealTable) × Width c × (0 < t) × (t ≤ 18) × (c * (t + 1) ≤ length (now ks)) × (length (now iv) ≡ 8 * c) × (length (now text) ≤ 1024) × (length (now text) ≤ length (now out)) × (0 < length (now text)) ⌝ }
+    ensures { λ r. ⌜ now (out .exit) ≡ Stream.uncfb (8 * c) (sealBytes c t (keysOf c (now (ks .entry)))) (now (iv .entry)) (now (text .entry)) ++ drop (length (now (text .entry))) (now (out .entry)) ⌝ }
+{
+    let long = text.len();
+    let mut s = [0u16; 512];
+    uncfb_gammas(tab, ks, c, t, iv, text, &mut s, blocks_of(long, c));
+    let b = 8 * c;
+    let at = long / b * b;
+    add_front(&s, text, out, 0, at);
+    if at == long {
+        return;
+    }
+    let r = long - at;
+    cells::xor_rest(&s, at + (b - r), text, out, at, r);
+}
+
+// q whole blocks; the sealed block before the next one stays in the cell.
+fn cfb_whole(tab: &[u8; 8192], ks: &[u64], c: usize, t: usize, iv: &[u8], text: &[u8], e: &mut [u16], out: &mut [u8], q: usize)
+    requires { ⌜ (now tab ≡ sealTable) × Width c × (0 < t) × (t ≤ 18) × (c * (t + 1) ≤ length (now ks)) × (length (now iv) ≡ 8 * c) × (4 * c ≤ length (now e)) × (q * (8 * c) ≤ length (now text)) × (length (now text) ≤ length (now out)) ⌝ }
+    ensures { λ r. ⌜ (blockAt c (now (e .exit)) 0 ≡ columnsOf c (cfbFed (8 * c) (sealBytes c t (keysOf c (now (ks .entry)))) (now (iv .entry)) (now (text .entry)) q)) × Written (added (8 * c) (Stream.cfbGamma (8 * c) (sealBytes c t (keysOf c (now (ks .entry)))) (now (iv .entry)) (now (text .entry))) (Stream.rear (8 * c) (length (now (text .entry)))) (now (text .entry))) (q * (8 * c)) (now (out .entry)) (now (out .exit)) ⌝ }
+{
+    cells::load(e, 0, iv, 0, c);
+    let mut i: usize = 0;
+    let mut at: usize = 0;
+    while i < q {
+        seal_block::seal_blocks(tab, e, 1, c, t, ks);
+        cells::xor_out(e, 0, text, out, at, c);
+        cells::xor_in(e, 0, text, at, c);
+        at += 8 * c;
+        i += 1;
+    }
+}
+
+pub fn cfb(tab: &[u8; 8192], ks: &[u64], c: usize, t: usize, iv: &[u8], text: &[u8], out: &mut [u8])
+    requires { ⌜ (now tab ≡ sealTable) × Width c × (0 < t) × (t ≤ 18) × (c * (t + 1) ≤ length (now ks)) × (length (now iv) ≡ 8 * c) × (length (now text) ≤ 1024) × (length (now text) ≤ length (now out)) ⌝ }
+    ensures { λ r. ⌜ now (out .exit) ≡ Stream.cfb (8 * c) (sealBytes c t (keysOf c (now (ks .entry)))) (now (iv .entry)) (now (text .entry)) ++ drop (length (now (text .entry))) (now (out .entry)) ⌝ }
+{
+    let long = text.len();
+    let b = 8 * c;
+    let q = long / b;
+    let at = q * b;
+    let mut e = [0u16; 32];
+    cfb_whole(tab, ks, c, t, iv, text, &mut e, out, q);
+    if at == long {
+        return;
+    }
+    let r = long - at;
+    seal_block::seal_blocks(tab, &mut e, 1, c, t, ks);
+    cells::xor_rest(&e, b - r, text, out, at, r);
+}

@@ -1,3 +1,22 @@
+use mathlib.Core.Path.{_≡_, refl, sym, ap, ap₂, subst, _∙_}
+use mathlib.Core.List.{List, _++_}
+use Prim.Native.Nat.{ℕ, _+_, _-_, _*_, _/_, _%_, _^_, _≤_, _<_}
+use native.Mathlib.Omega.{arith}
+use lib.ListN.{getD, take, drop, length}
+use denote.Ref.{now}
+use Rattle.common.specs.Places.{tab}
+use Rattle.words.specs.Words.{wordAt, putWords, blockAt, Walked}
+use Rattle.words.proofs.Walks.{length-puts, puts-more}
+use Rattle.kalyna.specs.Block.{seal, sealBytes}
+use Rattle.blocks.specs.Blocks.{keysOf}
+use Rattle.modes.specs.Cell.{blocksIn}
+use Rattle.stream_laws.specs.Gammas.{cellByte, carry, counted, Laid, Written, added}
+use Rattle.stream_laws.proofs.Out as out
+use Rattle.stream_laws.proofs.Cells as cells
+use Rattle.stream_laws.proofs.Counting as counting
+use Rattle.stream_laws.proofs.Widths as widths
+use Rattle.stream_laws.proofs.Adding as adding
+use Rattle.stream_laws.proofs.Modes as modes
 use borrow.Author.Needs.{needs}
 use Rattle.streams.proofs.seal_bytes.Statement.{statement}
 use Rattle.streams.proofs.seal_bytes.Tie as tie
@@ -20,7 +39,7 @@ same-length c = search needs
 
 -- src/lib.rt:37:1
 returns : tie.Need-returns
-returns c = ?
+returns c = modes.loaded-walked (c .before .before .before .before .before .before .before .before .before .before .before .args .c) (seal (c .before .before .before .before .before .before .before .before .before .before .before .args .c) (c .before .before .before .before .before .before .before .before .before .before .before .args .t) (keysOf (c .before .before .before .before .before .before .before .before .before .before .before .args .c) (now (c .before .before .before .before .before .before .before .before .before .before .before .args .ks)))) (now (c .before .before .before .before .before .before .before .before .before .before .before .args .e)) (c .before .before .before .before .before .before .load .last .0) (c .before .before .seal-blocks .last .1 .0) (now (c .before .before .before .before .before .before .before .before .before .before .before .args .b)) (λ n. omega (arith, c .before .before .before .before .before .before .before .before .before .shared-slice-known2 .given n)) (c .before .before .before .before .before .before .before .before .before .before .before .pre .6) (c .before .before .before .before .before .before .load .ensures) (c .before .before .seal-blocks .ensures)
 
 pub seal-bytes-spec : {M : Type 1} → statement M
 seal-bytes-spec = tie.close (tie.spec load-requires seal-blocks-requires same-length returns)
