@@ -64,3 +64,7 @@ room c n p = omega (arith, (ap (λ k. c * k) last ∙ mul-suc c (n - 1)))
   where
     last : n ≡ suc (n - 1)
     last = omega arith
+
+-- a short block begins a block's length before the end of the cell, or earlier
+pub short-fit : (n c : ℕ) → Width c → n ≤ 1024 → (n / (8 * c) * (8 * c) ≡ n → ⊥) → n / (8 * c) * (8 * c) + 8 * c ≤ 1024
+short-fit n = by-width (λ c. n ≤ 1024 → (n / (8 * c) * (8 * c) ≡ n → ⊥) → n / (8 * c) * (8 * c) + 8 * c ≤ 1024) (λ h e. omega arith) (λ h e. omega arith) (λ h e. omega arith)
