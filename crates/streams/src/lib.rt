@@ -85,7 +85,16 @@ fn counters(e: &[u16], s: &mut [u16], n: usize, c: usize)
 }
 
 // The gammas of n blocks.
-fn ctr_gammas(tab: &[u8; 8192], ks: &[u64], c: usize, t: usize, iv: &[u8], e: &mut [u16], s: &mut [u16], n: usize)
+fn ctr_gammas(
+    tab: &[u8; 8192],
+    ks: &[u64],
+    c: usize,
+    t: usize,
+    iv: &[u8],
+    e: &mut [u16],
+    s: &mut [u16],
+    n: usize,
+)
     requires { ⌜ (now tab ≡ sealTable) × Width c × (0 < t) × (t ≤ 18) × (c * (t + 1) ≤ length (now ks)) × (length (now iv) ≡ 8 * c) × (4 * c ≤ length (now e)) × (4 * (c * n) ≤ length (now s)) ⌝ }
     ensures { λ r. ⌜ Laid c n (λ i. seal c t (keysOf c (now (ks .entry))) (columnsOf c (Text.blockOf (8 * c) (Stream.counter (8 * c) (sealBytes c t (keysOf c (now (ks .entry))) (now (iv .entry))) (i + 1))))) (now (s .entry)) (now (s .exit)) ⌝ }
 {
@@ -109,7 +118,17 @@ pub fn ctr(tab: &[u8; 8192], ks: &[u64], c: usize, t: usize, iv: &[u8], text: &[
 // ---- section 11
 
 // q whole blocks; what is fed to the next block stays in the cell.
-fn ofb_whole(tab: &[u8; 8192], ks: &[u64], c: usize, t: usize, iv: &[u8], text: &[u8], e: &mut [u16], out: &mut [u8], q: usize)
+fn ofb_whole(
+    tab: &[u8; 8192],
+    ks: &[u64],
+    c: usize,
+    t: usize,
+    iv: &[u8],
+    text: &[u8],
+    e: &mut [u16],
+    out: &mut [u8],
+    q: usize,
+)
     requires { ⌜ (now tab ≡ sealTable) × Width c × (0 < t) × (t ≤ 18) × (c * (t + 1) ≤ length (now ks)) × (length (now iv) ≡ 8 * c) × (4 * c ≤ length (now e)) × (q * (8 * c) ≤ length (now text)) × (length (now text) ≤ length (now out)) ⌝ }
     ensures { λ r. ⌜ (blockAt c (now (e .exit)) 0 ≡ columnsOf c (ofbFed (sealBytes c t (keysOf c (now (ks .entry)))) (now (iv .entry)) q)) × Written (added (8 * c) (Stream.ofbGamma (sealBytes c t (keysOf c (now (ks .entry)))) (now (iv .entry))) (Stream.front (8 * c)) (now (text .entry))) (q * (8 * c)) (now (out .entry)) (now (out .exit)) ⌝ }
 {
@@ -144,7 +163,16 @@ pub fn ofb(tab: &[u8; 8192], ks: &[u64], c: usize, t: usize, iv: &[u8], text: &[
 // ---- section 8
 
 // The IV and the sealed blocks before the last, all sealed.
-fn uncfb_gammas(tab: &[u8; 8192], ks: &[u64], c: usize, t: usize, iv: &[u8], text: &[u8], s: &mut [u16], n: usize)
+fn uncfb_gammas(
+    tab: &[u8; 8192],
+    ks: &[u64],
+    c: usize,
+    t: usize,
+    iv: &[u8],
+    text: &[u8],
+    s: &mut [u16],
+    n: usize,
+)
     requires { ⌜ (now tab ≡ sealTable) × Width c × (0 < t) × (t ≤ 18) × (c * (t + 1) ≤ length (now ks)) × (length (now iv) ≡ 8 * c) × (0 < n) × ((n - 1) * (8 * c) ≤ length (now text)) × (4 * (c * n) ≤ length (now s)) ⌝ }
     ensures { λ r. ⌜ Laid c n (λ i. seal c t (keysOf c (now (ks .entry))) (columnsOf c (Text.before (8 * c) (now (iv .entry)) (now (text .entry)) i))) (now (s .entry)) (now (s .exit)) ⌝ }
 {
@@ -154,7 +182,15 @@ fn uncfb_gammas(tab: &[u8; 8192], ks: &[u64], c: usize, t: usize, iv: &[u8], tex
 }
 
 // A short last block takes the last bytes of its gamma.
-pub fn uncfb(tab: &[u8; 8192], ks: &[u64], c: usize, t: usize, iv: &[u8], text: &[u8], out: &mut [u8])
+pub fn uncfb(
+    tab: &[u8; 8192],
+    ks: &[u64],
+    c: usize,
+    t: usize,
+    iv: &[u8],
+    text: &[u8],
+    out: &mut [u8],
+)
     requires { ⌜ (now tab ≡ sealTable) × Width c × (0 < t) × (t ≤ 18) × (c * (t + 1) ≤ length (now ks)) × (length (now iv) ≡ 8 * c) × (length (now text) ≤ 1024) × (length (now text) ≤ length (now out)) × (0 < length (now text)) ⌝ }
     ensures { λ r. ⌜ now (out .exit) ≡ Stream.uncfb (8 * c) (sealBytes c t (keysOf c (now (ks .entry)))) (now (iv .entry)) (now (text .entry)) ++ drop (length (now (text .entry))) (now (out .entry)) ⌝ }
 {
@@ -172,7 +208,17 @@ pub fn uncfb(tab: &[u8; 8192], ks: &[u64], c: usize, t: usize, iv: &[u8], text: 
 }
 
 // q whole blocks; the sealed block before the next one stays in the cell.
-fn cfb_whole(tab: &[u8; 8192], ks: &[u64], c: usize, t: usize, iv: &[u8], text: &[u8], e: &mut [u16], out: &mut [u8], q: usize)
+fn cfb_whole(
+    tab: &[u8; 8192],
+    ks: &[u64],
+    c: usize,
+    t: usize,
+    iv: &[u8],
+    text: &[u8],
+    e: &mut [u16],
+    out: &mut [u8],
+    q: usize,
+)
     requires { ⌜ (now tab ≡ sealTable) × Width c × (0 < t) × (t ≤ 18) × (c * (t + 1) ≤ length (now ks)) × (length (now iv) ≡ 8 * c) × (4 * c ≤ length (now e)) × (q * (8 * c) ≤ length (now text)) × (length (now text) ≤ length (now out)) ⌝ }
     ensures { λ r. ⌜ (blockAt c (now (e .exit)) 0 ≡ columnsOf c (cfbFed (8 * c) (sealBytes c t (keysOf c (now (ks .entry)))) (now (iv .entry)) (now (text .entry)) q)) × Written (added (8 * c) (Stream.cfbGamma (8 * c) (sealBytes c t (keysOf c (now (ks .entry)))) (now (iv .entry)) (now (text .entry))) (Stream.rear (8 * c) (length (now (text .entry)))) (now (text .entry))) (q * (8 * c)) (now (out .entry)) (now (out .exit)) ⌝ }
 {

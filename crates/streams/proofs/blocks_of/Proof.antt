@@ -1,27 +1,10 @@
-use borrow.Author.Needs.{needs}
-use mathlib.Core.Path.{_≡_, refl, sym, ap, ap₂, subst, _∙_}
-use mathlib.Core.List.{List, _++_}
-use Prim.Native.Nat.{ℕ, _+_, _-_, _*_, _/_, _%_, _^_, _≤_, _<_}
+use mathlib.Core.Path.{refl}
+use Prim.Native.Nat.{_-_, _/_}
 use native.Mathlib.Omega.{arith}
-use lib.ListN.{getD, take, drop, length}
-use denote.Ref.{now}
-use Rattle.common.specs.Places.{tab}
-use Rattle.words.specs.Words.{wordAt, putWords, blockAt, Walked}
-use Rattle.words.proofs.Walks.{length-puts, puts-more}
-use Rattle.kalyna.specs.Block.{seal, sealBytes}
-use Rattle.blocks.specs.Blocks.{keysOf}
 use Rattle.modes.specs.Cell.{blocksIn}
-use Rattle.stream_laws.specs.Gammas.{cellByte, carry, counted, Laid, Written, added}
-use Rattle.stream_laws.proofs.Out as out
-use Rattle.stream_laws.proofs.Cells as cells
-use Rattle.stream_laws.proofs.Counting as counting
 use Rattle.stream_laws.proofs.Widths as widths
-use Rattle.stream_laws.proofs.Adding as adding
-use Rattle.stream_laws.proofs.Modes as modes
 use Rattle.streams.proofs.blocks_of.Statement.{statement}
 use Rattle.streams.proofs.blocks_of.Tie as tie
-use Rattle.streams.proofs.blocks_of.Reads as reads
-use Rattle.streams.proofs.blocks_of.Lts as lts
 
 -- src/lib.rt:23:11
 mul-result : tie.Need-mul-result

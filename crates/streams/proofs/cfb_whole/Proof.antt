@@ -1,38 +1,25 @@
 use borrow.Author.Needs.{needs}
-use mathlib.Core.Path.{_≡_, refl, sym, ap, ap₂, subst, _∙_}
-use mathlib.Core.List.{List, _++_}
-use Prim.Native.Nat.{ℕ, _+_, _-_, _*_, _/_, _%_, _^_, _≤_, _<_}
+use mathlib.Core.Path.{_≡_, sym, subst}
+use Prim.Native.Nat.{_-_, _*_, _/_, _≤_}
 use native.Mathlib.Omega.{arith}
-use lib.ListN.{getD, take, drop, length}
+use lib.ListN.{length}
 use denote.Ref.{now}
 use Rattle.common.specs.Places.{tab}
-use Rattle.words.specs.Words.{wordAt, putWords, blockAt, Walked}
-use Rattle.words.proofs.Walks.{length-puts, puts-more}
-use Rattle.kalyna.specs.Block.{seal, sealBytes}
+use Rattle.words.specs.Words.{blockAt}
+use Rattle.kalyna.specs.Block.{sealBytes}
 use Rattle.blocks.specs.Blocks.{keysOf}
-use Rattle.modes.specs.Cell.{blocksIn}
-use Rattle.stream_laws.specs.Gammas.{cellByte, carry, counted, Laid, Written, added}
+use Rattle.stream_laws.specs.Gammas.{Written, added}
 use Rattle.stream_laws.proofs.Out as out
-use Rattle.stream_laws.proofs.Cells as cells
-use Rattle.stream_laws.proofs.Counting as counting
 use Rattle.stream_laws.proofs.Widths as widths
-use Rattle.stream_laws.proofs.Adding as adding
 use Rattle.stream_laws.proofs.Modes as modes
 use Rattle.stream_laws.proofs.Ends as ends
 use native.Mathlib.Nat.{zero-mul}
-use Rattle.kalyna.specs.State.{columnsOf, bytesOf}
-use Rattle.modes.specs.Blocks as Text
-use Rattle.modes.specs.Stream.{front, rear, counter, ctrGamma, ofbGamma, cfbGamma, uncfbGamma}
+use Rattle.kalyna.specs.State.{columnsOf}
+use Rattle.modes.specs.Stream.{rear, cfbGamma}
 use Rattle.modes.proofs.Stream.{rear-whole}
-use Rattle.stream_laws.specs.Gammas.{ofbFed, cfbFed}
+use Rattle.stream_laws.specs.Gammas.{cfbFed}
 use Rattle.streams.proofs.cfb_whole.Statement.{statement}
 use Rattle.streams.proofs.cfb_whole.Tie as tie
-use Rattle.streams.proofs.cfb_whole.Reads as reads
-use Rattle.streams.proofs.cfb_whole.Lts as lts
-use Rattle.cells.proofs.load.Reads as load-reads
-use Rattle.cells.proofs.xor_in.Reads as xor-in-reads
-use Rattle.cells.proofs.xor_out.Reads as xor-out-reads
-use Rattle.seal_block.proofs.seal_blocks.Reads as seal-blocks-reads
 
 abbrev Inv-loop : tie.InvT-loop
 Inv-loop tab ks c t iv text e₀ out₀ q i₀ at₀ e out i at = (i ≤ q) × (at ≡ i * (8 * c)) × (length e ≡ length e₀) × (blockAt c e 0 ≡ columnsOf c (cfbFed (8 * c) (sealBytes c t (keysOf c ks)) iv text i)) × Written (added (8 * c) (cfbGamma (8 * c) (sealBytes c t (keysOf c ks)) iv text) (rear (8 * c) (length text)) text) at out₀ out

@@ -1,31 +1,15 @@
 use borrow.Author.Needs.{needs}
-use mathlib.Core.Path.{_≡_, refl, sym, ap, ap₂, subst, _∙_}
-use mathlib.Core.List.{List, _++_}
-use Prim.Native.Nat.{ℕ, _+_, _-_, _*_, _/_, _%_, _^_, _≤_, _<_}
+use mathlib.Core.Path.{_≡_, refl, ap, _∙_}
+use Prim.Native.Nat.{_-_, _/_, _≤_}
 use native.Mathlib.Omega.{arith}
-use lib.ListN.{getD, take, drop, length}
+use lib.ListN.{length}
 use denote.Ref.{now}
-use Rattle.common.specs.Places.{tab}
-use Rattle.words.specs.Words.{wordAt, putWords, blockAt, Walked}
+use Rattle.words.specs.Words.{wordAt, putWords}
 use Rattle.words.proofs.Walks.{length-puts, puts-more}
-use Rattle.kalyna.specs.Block.{seal, sealBytes}
-use Rattle.blocks.specs.Blocks.{keysOf}
-use Rattle.modes.specs.Cell.{blocksIn}
-use Rattle.stream_laws.specs.Gammas.{cellByte, carry, counted, Laid, Written, added}
-use Rattle.stream_laws.proofs.Out as out
-use Rattle.stream_laws.proofs.Cells as cells
+use Rattle.stream_laws.specs.Gammas.{carry, counted}
 use Rattle.stream_laws.proofs.Counting as counting
-use Rattle.stream_laws.proofs.Widths as widths
-use Rattle.stream_laws.proofs.Adding as adding
-use Rattle.stream_laws.proofs.Modes as modes
 use Rattle.streams.proofs.count.Statement.{statement}
 use Rattle.streams.proofs.count.Tie as tie
-use Rattle.streams.proofs.count.Reads as reads
-use Rattle.streams.proofs.count.Lts as lts
-use Rattle.std.proofs.num.wrapping_add_u64.Reads as wrapping-add-u64-reads
-use Rattle.streams.proofs.over.Reads as over-reads
-use Rattle.words.proofs.put_word.Reads as put-word-reads
-use Rattle.words.proofs.word_at.Reads as word-at-reads
 
 abbrev Inv-loop : tie.InvT-loop
 Inv-loop e s₀ w c x more₀ j₀ s more j = (j ≤ c) × (s ≡ putWords s₀ w j (counted e x)) × (more ≡ carry (wordAt e) x j)

@@ -1,37 +1,19 @@
-use mathlib.Core.Path.{_≡_, refl, sym, ap, ap₂, subst, _∙_}
-use mathlib.Core.List.{List, _++_}
-use Prim.Native.Nat.{ℕ, _+_, _-_, _*_, _/_, _%_, _^_, _≤_, _<_}
+use mathlib.Core.Path.{sym, subst}
+use Prim.Native.Nat.{_+_, _-_, _*_, _/_, _≤_}
 use native.Mathlib.Omega.{arith}
-use lib.ListN.{getD, take, drop, length}
+use lib.ListN.{length}
 use denote.Ref.{now}
-use Rattle.common.specs.Places.{tab}
-use Rattle.words.specs.Words.{wordAt, putWords, blockAt, Walked}
-use Rattle.words.proofs.Walks.{length-puts, puts-more}
 use Rattle.kalyna.specs.Block.{seal, sealBytes}
 use Rattle.blocks.specs.Blocks.{keysOf}
-use Rattle.modes.specs.Cell.{blocksIn}
-use Rattle.stream_laws.specs.Gammas.{cellByte, carry, counted, Laid, Written, added}
-use Rattle.stream_laws.proofs.Out as out
-use Rattle.stream_laws.proofs.Cells as cells
-use Rattle.stream_laws.proofs.Counting as counting
+use Rattle.stream_laws.specs.Gammas.{Laid}
 use Rattle.stream_laws.proofs.Widths as widths
-use Rattle.stream_laws.proofs.Adding as adding
 use Rattle.stream_laws.proofs.Modes as modes
-use Rattle.stream_laws.proofs.Ends as ends
-use native.Mathlib.Nat.{zero-mul}
-use Rattle.kalyna.specs.State.{columnsOf, bytesOf}
+use Rattle.kalyna.specs.State.{columnsOf}
 use Rattle.modes.specs.Blocks as Text
-use Rattle.modes.specs.Stream.{front, rear, counter, ctrGamma, ofbGamma, cfbGamma, uncfbGamma}
-use Rattle.modes.proofs.Stream.{rear-whole}
-use Rattle.stream_laws.specs.Gammas.{ofbFed, cfbFed}
+use Rattle.modes.specs.Stream.{counter}
 use borrow.Author.Needs.{needs}
 use Rattle.streams.proofs.ctr.Statement.{statement}
 use Rattle.streams.proofs.ctr.Tie as tie
-use Rattle.streams.proofs.ctr.Reads as reads
-use Rattle.streams.proofs.ctr.Lts as lts
-use Rattle.streams.proofs.add_front.Reads as add-front-reads
-use Rattle.streams.proofs.blocks_of.Reads as blocks-of-reads
-use Rattle.streams.proofs.ctr_gammas.Reads as ctr-gammas-reads
 
 -- src/lib.rt:105:35
 slice-aggregate-ctr-gammas : tie.Need-slice-aggregate-ctr-gammas

@@ -1,36 +1,16 @@
-use mathlib.Core.Path.{_≡_, refl, sym, ap, ap₂, subst, _∙_}
-use mathlib.Core.List.{List, _++_}
-use Prim.Native.Nat.{ℕ, _+_, _-_, _*_, _/_, _%_, _^_, _≤_, _<_}
+use Prim.Native.Nat.{_-_, _*_, _/_}
 use native.Mathlib.Omega.{arith}
-use lib.ListN.{getD, take, drop, length}
 use denote.Ref.{now}
-use Rattle.common.specs.Places.{tab}
-use Rattle.words.specs.Words.{wordAt, putWords, blockAt, Walked}
-use Rattle.words.proofs.Walks.{length-puts, puts-more}
-use Rattle.kalyna.specs.Block.{seal, sealBytes}
+use Rattle.kalyna.specs.Block.{seal}
 use Rattle.blocks.specs.Blocks.{keysOf}
-use Rattle.modes.specs.Cell.{blocksIn}
-use Rattle.stream_laws.specs.Gammas.{cellByte, carry, counted, Laid, Written, added}
-use Rattle.stream_laws.proofs.Out as out
 use Rattle.stream_laws.proofs.Cells as cells
-use Rattle.stream_laws.proofs.Counting as counting
 use Rattle.stream_laws.proofs.Widths as widths
-use Rattle.stream_laws.proofs.Adding as adding
 use Rattle.stream_laws.proofs.Modes as modes
-use Rattle.stream_laws.proofs.Ends as ends
-use native.Mathlib.Nat.{zero-mul}
-use Rattle.kalyna.specs.State.{columnsOf, bytesOf}
+use Rattle.kalyna.specs.State.{columnsOf}
 use Rattle.modes.specs.Blocks as Text
-use Rattle.modes.specs.Stream.{front, rear, counter, ctrGamma, ofbGamma, cfbGamma, uncfbGamma}
-use Rattle.modes.proofs.Stream.{rear-whole}
-use Rattle.stream_laws.specs.Gammas.{ofbFed, cfbFed}
 use borrow.Author.Needs.{needs}
 use Rattle.streams.proofs.uncfb_gammas.Statement.{statement}
 use Rattle.streams.proofs.uncfb_gammas.Tie as tie
-use Rattle.streams.proofs.uncfb_gammas.Reads as reads
-use Rattle.streams.proofs.uncfb_gammas.Lts as lts
-use Rattle.cells.proofs.load.Reads as load-reads
-use Rattle.seal_block.proofs.seal_blocks.Reads as seal-blocks-reads
 
 -- src/lib.rt:151:5
 load-requires : tie.Need-load-requires
