@@ -125,19 +125,19 @@ fn ofb_whole(
     t: usize,
     iv: &[u8],
     text: &[u8],
-    e: &mut [u16],
+    gamma: &mut [u16],
     out: &mut [u8],
     q: usize,
 )
-    requires { ⌜ (now tab ≡ sealTable) × Width c × (0 < t) × (t ≤ 18) × (c * (t + 1) ≤ length (now ks)) × (length (now iv) ≡ 8 * c) × (4 * c ≤ length (now e)) × (q * (8 * c) ≤ length (now text)) × (length (now text) ≤ length (now out)) ⌝ }
-    ensures { λ r. ⌜ (blockAt c (now (e .exit)) 0 ≡ columnsOf c (ofbFed (sealBytes c t (keysOf c (now (ks .entry)))) (now (iv .entry)) q)) × Written (added (8 * c) (Stream.ofbGamma (sealBytes c t (keysOf c (now (ks .entry)))) (now (iv .entry))) (Stream.front (8 * c)) (now (text .entry))) (q * (8 * c)) (now (out .entry)) (now (out .exit)) ⌝ }
+    requires { ⌜ (now tab ≡ sealTable) × Width c × (0 < t) × (t ≤ 18) × (c * (t + 1) ≤ length (now ks)) × (length (now iv) ≡ 8 * c) × (4 * c ≤ length (now gamma)) × (q * (8 * c) ≤ length (now text)) × (length (now text) ≤ length (now out)) ⌝ }
+    ensures { λ r. ⌜ (blockAt c (now (gamma .exit)) 0 ≡ columnsOf c (ofbFed (sealBytes c t (keysOf c (now (ks .entry)))) (now (iv .entry)) q)) × Written (added (8 * c) (Stream.ofbGamma (sealBytes c t (keysOf c (now (ks .entry)))) (now (iv .entry))) (Stream.front (8 * c)) (now (text .entry))) (q * (8 * c)) (now (out .entry)) (now (out .exit)) ⌝ }
 {
-    cells::load(e, 0, iv, 0, c);
+    cells::load(gamma, 0, iv, 0, c);
     let mut i: usize = 0;
     let mut at: usize = 0;
     while i < q {
-        seal_block::seal_blocks(tab, e, 1, c, t, ks);
-        cells::xor_out(e, 0, text, out, at, c);
+        seal_block::seal_blocks(tab, gamma, 1, c, t, ks);
+        cells::xor_out(gamma, 0, text, out, at, c);
         at += 8 * c;
         i += 1;
     }
