@@ -1,10 +1,10 @@
 -- Bytes of a cell added to the text are what the modes define.
 use mathlib.Core.Path.{_≡_, refl, sym, ap, ap₂, _∙_, subst}
-use mathlib.Core.List.{List, [], _∷_, _++_, append-assoc}
-use Prim.Native.Nat.{ℕ, zero, suc, _+_, _-_, _*_, _/_, _%_, _^_, _<_, _≤_}
-use native.Mathlib.Nat.{mod-lt, div-add-mod', zero-add}
+use mathlib.Core.List.{List, _++_, append-assoc}
+use Prim.Native.Nat.{ℕ, _+_, _-_, _*_, _/_, _%_, _<_, _≤_}
+use native.Mathlib.Nat.{zero-add}
 use native.Mathlib.Omega.{arith}
-use lib.Arith.{digits-div, digits-mod}
+use lib.Arith.{digits-div}
 use lib.ListN.{getD, take, drop, length, length-append}
 use lib.Seq.{take-at, drop-at, drop-drop, length-take-le}
 use Rattle.common.specs.Places.{tab}

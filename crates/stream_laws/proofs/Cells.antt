@@ -1,21 +1,19 @@
 -- Bytes of a cell are bytes of its blocks.
 use mathlib.Core.Path.{_≡_, refl, sym, ap, ap₂, _∙_, subst}
 use mathlib.Core.Logic.{_⊎_, ⊎-elim}
-use mathlib.Core.List.{List, [], _∷_, _++_}
-use Prim.Native.Nat.{ℕ, zero, suc, _+_, _-_, _*_, _/_, _%_, _^_, _<_, _≤_}
-use native.Mathlib.Nat.{mul-comm, mul-assoc, mul-suc, mul-zero, mul-le-mul-left, mod-lt, div-add-mod', zero-add}
-use native.Mathlib.Numerals.{add-one}
+use mathlib.Core.List.{List}
+use Prim.Native.Nat.{ℕ, _+_, _-_, _*_, _/_, _%_, _^_, _<_, _≤_}
+use native.Mathlib.Nat.{mul-comm, mul-assoc, mul-suc, mul-le-mul-left, mod-lt, div-add-mod', zero-add}
 use native.Mathlib.Decide.{decLt}
 use native.Mathlib.Omega.{arith}
-use lib.ListN.{getD, take, drop, length}
+use lib.ListN.{getD, length}
 use Rattle.common.specs.Places.{tab}
-use Rattle.common.proofs.Places.{getD-tab, tab-ext, length-tab}
-use Rattle.field.specs.Xor.{xor}
+use Rattle.common.proofs.Places.{getD-tab, tab-ext}
 use Rattle.field.specs.Column.{byteOf, pack}
-use Rattle.field.proofs.PackLaws.{pack-lt, pack-ext, pack-xor, pack-byte, byteOf-lt}
+use Rattle.field.proofs.PackLaws.{pack-lt, pack-ext}
 use Rattle.words.specs.Words.{wordAt, putWords, blockAt, Walked}
 use Rattle.words.proofs.Walks.{puts-at, puts-other, length-puts, block-ext}
-use Rattle.kalyna.specs.State.{State, columnsOf, bytesOf}
+use Rattle.kalyna.specs.State.{columnsOf, bytesOf}
 use Rattle.stream_laws.specs.Gammas.{cellByte, Laid}
 
 -- column j of block i

@@ -1,17 +1,17 @@
 -- The number of a block in base 256 is the number of its columns in base 2^64, so a carry over the columns counts the block.
 use mathlib.Core.Path.{_≡_, refl, sym, ap, ap₂, _∙_, subst}
-use mathlib.Core.List.{List, [], _∷_, _++_}
-use Prim.Native.Nat.{ℕ, zero, suc, _+_, _-_, _*_, _/_, _%_, _^_, _<_, _≤_}
-use native.Mathlib.Nat.{mod-lt, div-one, pow-suc, pow-succ', div-div-eq-div-mul, zero-mul, zero-add, mul-zero, mul-add-div-right, mul-add-mod-self-right, not-suc-le-zero, mul-comm, mul-assoc, add-mul, add-assoc, one-mul}
+use mathlib.Core.List.{List}
+use Prim.Native.Nat.{ℕ, zero, suc, _+_, _-_, _*_, _/_, _%_, _^_, _<_}
+use native.Mathlib.Nat.{mod-lt, div-one, pow-suc, div-div-eq-div-mul, zero-add, mul-zero, mul-add-mod-self-right, not-suc-le-zero, mul-assoc}
 use native.Mathlib.Numerals.{add-one}
 use native.Mathlib.Omega.{arith}
-use lib.Arith.{mod-mul, digits-div, digits-mod}
+use lib.Arith.{mod-mul, digits-div}
 use lib.Pow.{pow-add}
-use lib.ListN.{getD, length}
+use lib.ListN.{getD}
 use Rattle.common.specs.Places.{tab}
-use Rattle.common.proofs.Places.{getD-tab, tab-ext, length-tab}
+use Rattle.common.proofs.Places.{getD-tab, tab-ext}
 use Rattle.field.specs.Column.{byteOf, pack}
-use Rattle.field.proofs.PackLaws.{pack-ext, pack-byte, byteOf-zero, byteOf-suc, byteOf-lt}
+use Rattle.field.proofs.PackLaws.{pack-ext, pack-byte, byteOf-zero, byteOf-suc}
 use Rattle.words.specs.Words.{wordAt, blockAt}
 use Rattle.kalyna.specs.State.{State, columnsOf, bytesOf}
 use Rattle.modes.specs.Blocks.{numberOf, blockOf}

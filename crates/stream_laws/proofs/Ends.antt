@@ -1,8 +1,8 @@
 -- The last, short block, and the whole answer.
-use mathlib.Core.Path.{_≡_, refl, sym, ap, ap₂, _∙_, subst}
-use mathlib.Core.List.{List, [], _∷_, _++_}
-use Prim.Native.Nat.{ℕ, zero, suc, _+_, _-_, _*_, _/_, _%_, _^_, _<_, _≤_}
-use native.Mathlib.Nat.{mod-lt, div-add-mod', zero-add, zero-mul, suc-mul}
+use mathlib.Core.Path.{_≡_, refl, sym, ap, _∙_, subst}
+use mathlib.Core.List.{List, _++_}
+use Prim.Native.Nat.{ℕ, suc, _+_, _-_, _*_, _/_, _%_, _<_, _≤_}
+use native.Mathlib.Nat.{zero-add, zero-mul, suc-mul}
 use native.Mathlib.Numerals.{add-one}
 use native.Mathlib.Omega.{arith}
 use lib.Arith.{digits-div, digits-mod}
@@ -18,7 +18,6 @@ use Rattle.blocks.specs.Blocks.{Width}
 use Rattle.modes.specs.Blocks as Text
 use Rattle.modes.specs.Stream.{addGamma, front, rear, ofbGamma, ofb, cfbGamma, cfb, uncfbGamma, uncfb}
 use Rattle.modes.specs.Cell.{blocksIn}
-use Rattle.modes.proofs.Stream.{rear-whole}
 use Rattle.stream_laws.specs.Gammas.{cellByte, Laid, added, Written, ofbFed, cfbFed}
 use Rattle.stream_laws.proofs.Out.{written-gamma}
 use Rattle.stream_laws.proofs.Widths.{width-pos, in-blocks, whole-le, rest-lt, next-whole}

@@ -1,35 +1,34 @@
 -- What the code makes of a cell is what the modes define.
 use mathlib.Core.Path.{_≡_, refl, sym, ap, ap₂, _∙_, subst}
-use mathlib.Core.Logic.{_⊎_, ⊎-elim}
-use mathlib.Core.List.{List, [], _∷_, _++_}
+use mathlib.Core.Logic.{_⊎_}
+use mathlib.Core.List.{List, _++_}
 use Prim.Native.Nat.{ℕ, zero, suc, _+_, _-_, _*_, _/_, _%_, _^_, _<_, _≤_}
-use native.Mathlib.Nat.{mod-lt, div-add-mod', zero-add, mul-suc, suc-mul, mul-zero, mul-one, mul-comm, mul-assoc, mul-le-mul-left, mul-le-mul-right, div-lt-iff-lt-mul}
+use native.Mathlib.Nat.{mod-lt, div-add-mod', zero-add, mul-suc, suc-mul, mul-zero, mul-comm, mul-assoc, mul-le-mul-left, mul-le-mul-right, div-lt-iff-lt-mul}
 use native.Mathlib.Numerals.{add-one}
 use native.Mathlib.Omega.{arith}
-use lib.Arith.{digits-div, digits-mod}
 use lib.ListN.{getD, take, drop, length}
 use Rattle.common.specs.Places.{tab}
-use Rattle.common.proofs.Places.{getD-tab, tab-ext, length-tab}
+use Rattle.common.proofs.Places.{getD-tab, tab-ext}
 use Rattle.field.specs.Xor.{xor}
-use Rattle.field.specs.Column.{byteOf, pack}
+use Rattle.field.specs.Column.{pack}
 use Rattle.field.proofs.XorLaws as X
 use Rattle.field.proofs.PackLaws.{pack-lt, pack-ext, pack-xor}
 use Rattle.words.specs.Words.{wordAt, putWords, blockAt, Walked}
-use Rattle.kalyna.specs.State.{State, Bytes, columnsOf, bytesOf}
+use Rattle.kalyna.specs.State.{State, columnsOf, bytesOf}
 use Rattle.kalyna.specs.Block.{seal, sealBytes}
 use Rattle.kalyna.proofs.Bytes.{seal-state, columns-bytes, bytesOf-bytes}
 use Rattle.blocks.specs.Blocks.{Width}
 use Rattle.modes.specs.Blocks as Text
-use Rattle.modes.specs.Stream.{addGamma, front, rear, counter, ctrGamma, ctr, ofbGamma, ofb, cfbGamma, cfb, uncfbGamma, uncfb}
+use Rattle.modes.specs.Stream.{front, rear, counter, ctrGamma, ctr, ofbGamma, cfbGamma, uncfbGamma}
 use Rattle.modes.specs.Cell.{blocksIn}
-use Rattle.modes.proofs.Blocks.{getD-block, getD-xor, block-starts}
+use Rattle.modes.proofs.Blocks.{getD-block, getD-xor}
 use Rattle.modes.proofs.Stream.{rear-whole, rear-short}
-use Rattle.stream_laws.specs.Gammas.{cellByte, carry, counted, Laid, added, Written, ofbFed, cfbFed}
-use Rattle.stream_laws.proofs.Out.{written-none, written-more, written-gamma}
-use Rattle.stream_laws.proofs.Cells.{getD-blocks, cell-byte, block-puts, block-other, loaded, laid-walked}
+use Rattle.stream_laws.specs.Gammas.{cellByte, counted, Laid, ofbFed, cfbFed}
+use Rattle.stream_laws.proofs.Out.{written-gamma}
+use Rattle.stream_laws.proofs.Cells.{getD-blocks, block-puts, block-other, loaded}
 use Rattle.stream_laws.proofs.Counting.{count-is}
 use Rattle.stream_laws.proofs.Widths.{width-pos, in-blocks}
-use Rattle.stream_laws.proofs.Adding.{block-added, cells-added}
+use Rattle.stream_laws.proofs.Adding.{cells-added}
 
 -- ---- one block
 

@@ -1,7 +1,7 @@
 -- Gammas in a cell, and a text that they are added to.
 use mathlib.Core.List.{List}
 use mathlib.Core.Path.{_≡_}
-use Prim.Native.Nat.{ℕ, zero, suc, _+_, _*_, _/_, _%_, _^_, _<_}
+use Prim.Native.Nat.{ℕ, zero, suc, _+_, _/_, _%_, _^_, _<_}
 use lib.ListN.{getD, take, drop, length}
 use Rattle.common.specs.Places.{tab}
 use Rattle.field.specs.Xor.{xor}
