@@ -1,0 +1,2 @@
+-- What the code of the stream modes is stated with.
+pub mod Gammas

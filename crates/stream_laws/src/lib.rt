@@ -1,0 +1,1 @@
+// Definitions and laws for the code of the stream modes; no code.
