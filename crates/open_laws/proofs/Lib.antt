@@ -2,3 +2,4 @@
 pub mod Equal
 pub mod Swaps
 pub mod Cells
+pub mod Unique
