@@ -10,9 +10,9 @@ use Rattle.common.specs.Places.{tab}
 use Rattle.common.proofs.Places.{getD-tab, tab-ext}
 use Rattle.field.specs.Column.{byteOf, pack}
 use Rattle.field.proofs.XorLaws.{lt-two}
-use Rattle.field.proofs.PackLaws.{byteOf-lt, pack-ext}
+use Rattle.field.proofs.PackLaws.{byteOf-lt, pack-ext, eight-bytes}
 use Rattle.substitutions.specs.Tables.{unsub, unsubstitutions}
-use Rattle.columns.proofs.Lookup.{eight-bytes, four, eight}
+use Rattle.columns.proofs.Lookup.{four, eight}
 use Rattle.words.specs.Words.{wordAt, putWord, putWords, blockAt, Walked}
 use Rattle.words.proofs.Walks.{walk-more}
 use Rattle.kalyna.specs.Round.{subKey, to}

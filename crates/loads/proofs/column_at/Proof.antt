@@ -1,9 +1,9 @@
+use Rattle.field.proofs.PackLaws.{eight-bytes}
 use mathlib.Core.Path.{_≡_, refl, sym, ap, _∙_}
 use Prim.Native.Nat.{_+_}
 use native.Mathlib.Nat.{add-zero}
 use lib.ListN.{getD}
 use denote.Ref.{now}
-use Rattle.columns.proofs.Lookup.{eight-bytes}
 use borrow.Author.Needs.{needs}
 use Rattle.loads.proofs.column_at.Statement.{statement}
 use Rattle.loads.proofs.column_at.Tie as tie
