@@ -73,7 +73,7 @@ module _ (text : List ℕ) where
       all = omega arith
 
       long : length (drop (n + 1) o₀) ≡ 63 - n
-      long = length-drop (n + 1) o₀ ∙ ap (λ x. x - (n + 1)) (ap length e₀ ∙ length-replicate 64 0) ∙ less
+      long = length-drop (n + 1) o₀ ∙ ap (λ x. x - (n + 1)) (ap length e₀ ∙ length-replicate {A = ℕ} 64 0) ∙ less
         where
           less : 64 - (n + 1) ≡ 63 - n
           less = omega arith
@@ -83,6 +83,9 @@ module _ (text : List ℕ) where
           sym (tab-self (63 - n) (drop (n + 1) o₀) long)
           ∙ tab-ext (63 - n) _ _ (λ j lj.
           getD-drop (n + 1) o₀ j 0 ∙ ap (λ x. getD x (n + 1 + j) 0) e₀ ∙ zeros 64 (n + 1 + j) ∙ sym (filled-past at (n + 1 + j) (omega (arith, e))))
+
+pub last-long : (o : List ℕ) → o ≡ replicate 64 0 → length o ≡ 64
+last-long o e = ap length e ∙ length-replicate {A = ℕ} 64 0
 
 -- one more byte stored
 pub run-store : (f : ℕ → ℕ) (o₀ o : List ℕ) (i v : ℕ) → Run f 0 o₀ i o → i < length o₀ → v ≡ f i → Run f 0 o₀ (i + 1) (set o i v)
@@ -129,6 +132,10 @@ module _ (B : ℕ) (text : List ℕ) (pos : 0 < B) where
         ends : (m : ℕ) → m < q * B → (m / B + 1) * B ≤ length text
         ends m l = omega (arith, next-place B (m / B), block-ends B m (q * B) pos (mul-mod-left q B) l, suc-mul (m / B) B)
 
+    chained-suc : (i : ℕ) → E (xorBlock B (chained B E iv (fill B text) i) (blockAt B (fill B text) i)) ≡ chained B E iv (fill B text) (suc i)
+    unfolding chained
+    chained-suc i = refl
+
     -- the text's blocks, and the last one
     pub cbp-is : (o o₁ o₂ h h₁ x : List ℕ) → h ≡ iv → h₁ ≡ chained B E h text Q → o₁ ≡ links B E h text Q ++ drop (Q * B) o
         → x ≡ E (xorBlock B h₁ (blockAt B (fill B text) Q)) → length x ≡ B → o₂ ≡ take (Q * B) o₁ ++ (x ++ drop (Q * B + B) o₁)
@@ -145,4 +152,4 @@ module _ (B : ℕ) (text : List ℕ) (pos : 0 < B) where
         chain = e₁ ∙ ap (λ y. chained B E y text Q) eh ∙ sym (chained-fill Q before)
 
         last : x ≡ chained B E iv (fill B text) (Q + 1)
-        last = ex ∙ ap (λ y. E (xorBlock B y (blockAt B (fill B text) Q))) chain ∙ (unfold chained in refl) ∙ ap (chained B E iv (fill B text)) (sym (add-one Q))
+        last = ex ∙ ap (λ y. E (xorBlock B y (blockAt B (fill B text) Q))) chain ∙ chained-suc Q ∙ ap (chained B E iv (fill B text)) (sym (add-one Q))
