@@ -153,3 +153,16 @@ module _ (B : ℕ) (text : List ℕ) (pos : 0 < B) where
 
         last : x ≡ chained B E iv (fill B text) (Q + 1)
         last = ex ∙ ap (λ y. E (xorBlock B y (blockAt B (fill B text) Q))) chain ∙ chained-suc Q ∙ ap (chained B E iv (fill B text)) (sym (add-one Q))
+
+-- ---- places
+
+-- where the last block starts
+pub last-le : (B l at : ℕ) → at ≡ l / B * B → at ≤ l
+last-le B l at e = omega (arith, div-add-mod' l B)
+
+pub last-lt : (B l at : ℕ) → at ≡ l / B * B → 0 < B → B ≤ 64 → l < at + 64
+last-lt B l at e p h = omega (arith, div-add-mod' l B, mod-lt l p)
+
+-- room for the filled text
+pub filled-room : (B q n : ℕ) → B * (q + 1) ≤ n → q * B + B ≤ n
+filled-room B q n h = omega (arith, mul-comm B (q + 1), next-place B q)
