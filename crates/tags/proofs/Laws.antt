@@ -59,13 +59,13 @@ zero-held c w = ap (held c) (sym zero-set) ∙ number-held c 0 w (omega arith)
 
 -- ---- the number that is masked with
 
-pub mask-whole : (m : ℕ) → m ≡ 0 → 0 ≡ pick (eqb m 0) 0 1
+pub mask-whole : (m : ℕ) → m ≡ 0 → _≡_ {A = ℕ} 0 (pick (eqb m 0) 0 1)
 unfolding pick
-mask-whole m e = ap (λ t. pick t 0 1) (sym (eq-eqb m 0 e))
+mask-whole m e = ap (λ t. pick {A = ℕ} t 0 1) (sym (eq-eqb m 0 e))
 
-pub mask-filled : (m : ℕ) → (m ≡ 0 → ⊥) → 1 ≡ pick (eqb m 0) 0 1
+pub mask-filled : (m : ℕ) → (m ≡ 0 → ⊥) → _≡_ {A = ℕ} 1 (pick (eqb m 0) 0 1)
 unfolding pick
-mask-filled m n = ap (λ t. pick t 0 1) (sym (ne-eqb m 0 n))
+mask-filled m n = ap (λ t. pick {A = ℕ} t 0 1) (sym (ne-eqb m 0 n))
 
 -- ---- the last block
 
@@ -116,14 +116,14 @@ module _ (B : ℕ) (text : List ℕ) (pos : 0 < B) (some : 0 < length text) wher
       decEq zero = yes refl
       decEq (suc m) = no (λ e. omega (arith, e))
 
+      less : (q : ℕ) → suc q * B / B - 1 ≡ q
+      less q = ap (λ x. x - 1) (mul-div-left (suc q) pos) ∙ (let z : suc q - 1 ≡ q = omega arith in z)
+
       go : Dec (length text % B ≡ 0) → length (macText B text) / B - 1 ≡ Last
       go (yes e) = ap (λ x. x / B - 1) (ap length (whole-text e) ∙ sym (last-whole e)) ∙ less Last
       go (no n) =
           ap (λ x. x / B - 1) (ap length (filled-text n) ∙ length-fill B text pos ∙ mul-comm B (length text / B + 1) ∙ ap (λ q. q * B) (add-one (length text / B)))
           ∙ less (length text / B) ∙ sym (last-begun n)
-
-      less : (q : ℕ) → suc q * B / B - 1 ≡ q
-      less q = ap (λ x. x - 1) (mul-div-left (suc q) pos) ∙ (let z : suc q - 1 ≡ q = omega arith in z)
 
   -- the blocks before it are the text's
   pub last-room : Last * B ≤ length text

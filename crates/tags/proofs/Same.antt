@@ -9,8 +9,8 @@ use native.Mathlib.Decide.{decLt}
 use native.Mathlib.Omega.{arith}
 use borrow.Author.Tests.{eqb-true, eq-eqb, ne-eqb}
 use lib.Dec.{eqb}
-use lib.ListN.{getD, take, length}
-use lib.Seq.{getD-take, length-take-le, ext-getD, take-append-le}
+use lib.ListN.{getD, take, drop, length, set}
+use lib.Seq.{getD-take, length-take-le, ext-getD, take-append-le, set-split}
 use Rattle.common.specs.Choice.{pick}
 use Rattle.field.specs.Xor.{xor}
 use Rattle.field.proofs.XorLaws as X
@@ -71,13 +71,13 @@ module _ (a b : List ℕ) (n : ℕ) (long : length a ≡ n) (room : n ≤ length
       go true e = absurd (h (alike a b n (λ i l. ap (λ x. getD x i 0) (same-true a (take n b) e) ∙ getD-take n b i 0 l)))
 
 -- the answer as a byte
-pub picked-one : (t : Bool) → t ≡ true → 1 ≡ pick t 1 0
+pub picked-one : (t : Bool) → t ≡ true → _≡_ {A = ℕ} 1 (pick t 1 0)
 unfolding pick
-picked-one t e = ap (λ x. pick x 1 0) (sym e)
+picked-one t e = ap (λ x. pick {A = ℕ} x 1 0) (sym e)
 
-pub picked-zero : (t : Bool) → t ≡ false → 0 ≡ pick t 1 0
+pub picked-zero : (t : Bool) → t ≡ false → _≡_ {A = ℕ} 0 (pick t 1 0)
 unfolding pick
-picked-zero t e = ap (λ x. pick x 1 0) (sym e)
+picked-zero t e = ap (λ x. pick {A = ℕ} x 1 0) (sym e)
 
 listed : (t : Bool) → pick {A = ℕ} t 1 0 ∷ [] ≡ pick t (1 ∷ []) (0 ∷ [])
 unfolding pick
@@ -89,5 +89,9 @@ pub chk-is : (B : ℕ) (E : List ℕ → List ℕ) (tag text right rest : List �
     → r ≡ pick (same tag (take (length tag) right)) 1 0 → r ∷ [] ≡ chk B E tag text
 unfolding chk
 chk-is B E tag text right rest r lm lt er e =
-    ap (λ x. x ∷ []) (e ∙ ap (λ x. pick (same tag x) 1 0) (ap (take (length tag)) er ∙ take-append-le (length tag) (mac B E text) rest (omega (arith, lm))))
+    ap (λ x. x ∷ []) (e ∙ ap (λ x. pick {A = ℕ} (same tag x) 1 0) (ap (take (length tag)) er ∙ take-append-le (length tag) (mac B E text) rest (omega (arith, lm))))
     ∙ listed (same tag (take (length tag) (mac B E text)))
+
+-- and is stored
+pub chk-out : (o y : List ℕ) (r : ℕ) → 0 < length o → r ∷ [] ≡ y → set o 0 r ≡ y ++ drop 1 o
+chk-out o y r l e = set-split o 0 r l ∙ ap (λ x. x ++ drop 1 o) e
