@@ -1,0 +1,68 @@
+use mathlib.Core.Path.{_≡_, refl, sym, ap, ap₂, subst, _∙_}
+use mathlib.Core.List.{_++_}
+use Prim.Native.Nat.{ℕ, _+_, _-_, _*_, _/_, _%_, _≤_, _<_}
+use native.Mathlib.Nat.{zero-mul}
+use native.Mathlib.Omega.{arith}
+use lib.ListN.{getD, take, drop, length}
+use denote.Ref.{now}
+use Rattle.kalyna.specs.Block.{sealBytes}
+use Rattle.blocks.specs.Blocks.{keysOf}
+use Rattle.modes.specs.Blocks.{xorBlock}
+use Rattle.modes.specs.Chain.{chained}
+use Rattle.one_block.specs.Held.{held}
+use Rattle.one_block.proofs.Laws.{length-held}
+use Rattle.chains.specs.Links.{links}
+use Rattle.chains.proofs.Laws.{take-drop-all, given, width-le, width-lt, block-room, next-place, chained-none, chained-more, links-none, links-stored, links-all, whole-blocks, some-blocks}
+use borrow.Author.Needs.{needs}
+use Rattle.chains.proofs.blk.Statement.{statement}
+use Rattle.chains.proofs.blk.Tie as tie
+use Rattle.chains.proofs.blk.Reads as reads
+use Rattle.chains.proofs.blk.Lts as lts
+use Rattle.one_block.proofs.give_out.Reads as give-out-reads
+use Rattle.one_block.proofs.seal_first.Reads as seal-first-reads
+use Rattle.one_block.proofs.take_in.Reads as take-in-reads
+
+-- src/lib.rt:20:24
+slice-aggregate-take-in : tie.Need-slice-aggregate-take-in
+slice-aggregate-take-in c = search needs
+
+-- src/lib.rt:20:5
+take-in-requires : tie.Need-take-in-requires
+take-in-requires c κs = (omega (arith, width-le (c .before .before .before .before .args .c) (c .before .before .before .before .pre .1)), omega (arith, c .before .before .before .before .pre .5))
+
+-- src/lib.rt:21:32
+slice-aggregate-seal-first : tie.Need-slice-aggregate-seal-first
+slice-aggregate-seal-first c = search needs
+
+-- src/lib.rt:21:5
+seal-first-requires : tie.Need-seal-first-requires
+seal-first-requires c κs = (c .before .before .before .before .before .before .before .pre .0, c .before .before .before .before .before .before .before .pre .1, c .before .before .before .before .before .before .before .pre .2, omega (arith, width-le (c .before .before .before .before .before .before .before .args .c) (c .before .before .before .before .before .before .before .pre .1), c .before .before .take-in .kept .0), c .before .before .before .before .before .before .before .pre .4, c .before .before .before .before .before .before .before .pre .3)
+
+-- src/lib.rt:22:25
+slice-aggregate-give-out : tie.Need-slice-aggregate-give-out
+slice-aggregate-give-out c = search needs
+
+-- src/lib.rt:22:5
+give-out-requires : tie.Need-give-out-requires
+give-out-requires c κs = (omega (arith, width-le (c .before .before .before .before .before .before .before .before .before .before .before .args .c) (c .before .before .before .before .before .before .before .before .before .before .before .pre .1), c .before .before .before .before .before .before .take-in .kept .0, c .before .before .before .seal-first .kept .1 .0), omega (arith, c .before .before .before .before .before .before .before .before .before .before .before .pre .6))
+
+-- src/lib.rt:15:1
+same-length : tie.Need-same-length
+same-length c = search needs
+
+-- src/lib.rt:15:1
+returns : tie.Need-returns
+returns c = given (8 * c .before .before .before .before .before .before .before .before .before .before .before .before .before .before .args .c) _ _ (now (c .before .before .before .before .before .before .before .before .before .before .before .before .before .before .args .out)) _ (c .before .before .give-out .ensures) (c .before .before .before .before .before .before .seal-first .ensures ∙ ap (sealBytes (c .before .before .before .before .before .before .before .before .before .before .before .before .before .before .args .c) (c .before .before .before .before .before .before .before .before .before .before .before .before .before .before .args .t) (keysOf (c .before .before .before .before .before .before .before .before .before .before .before .before .before .before .args .c) (now (c .before .before .before .before .before .before .before .before .before .before .before .before .before .before .args .ks)))) (c .before .before .before .before .before .before .before .before .before .take-in .ensures ∙ take-drop-all (8 * c .before .before .before .before .before .before .before .before .before .before .before .before .before .before .args .c) (now (c .before .before .before .before .before .before .before .before .before .before .before .before .before .before .args .text)) (c .before .before .before .before .before .before .before .before .before .before .before .before .before .before .pre .5)))
+
+pub blk-spec : {M : Type 1} → statement M
+blk-spec =
+    tie.close
+    (tie.spec
+    slice-aggregate-take-in
+    take-in-requires
+    slice-aggregate-seal-first
+    seal-first-requires
+    slice-aggregate-give-out
+    give-out-requires
+    same-length
+    returns)

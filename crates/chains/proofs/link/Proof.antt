@@ -1,0 +1,41 @@
+use mathlib.Core.Path.{_≡_, refl, sym, ap, ap₂, subst, _∙_}
+use mathlib.Core.List.{_++_}
+use Prim.Native.Nat.{ℕ, _+_, _-_, _*_, _/_, _%_, _≤_, _<_}
+use native.Mathlib.Nat.{zero-mul}
+use native.Mathlib.Omega.{arith}
+use lib.ListN.{getD, take, drop, length}
+use denote.Ref.{now}
+use Rattle.kalyna.specs.Block.{sealBytes}
+use Rattle.blocks.specs.Blocks.{keysOf}
+use Rattle.modes.specs.Blocks.{xorBlock}
+use Rattle.modes.specs.Chain.{chained}
+use Rattle.one_block.specs.Held.{held}
+use Rattle.one_block.proofs.Laws.{length-held}
+use Rattle.chains.specs.Links.{links}
+use Rattle.chains.proofs.Laws.{take-drop-all, given, width-le, width-lt, block-room, next-place, chained-none, chained-more, links-none, links-stored, links-all, whole-blocks, some-blocks}
+use borrow.Author.Needs.{needs}
+use Rattle.chains.proofs.link.Statement.{statement}
+use Rattle.chains.proofs.link.Tie as tie
+use Rattle.chains.proofs.link.Reads as reads
+use Rattle.chains.proofs.link.Lts as lts
+use Rattle.one_block.proofs.add_in.Reads as add-in-reads
+use Rattle.one_block.proofs.seal_first.Reads as seal-first-reads
+
+-- src/lib.rt:38:5
+add-in-requires : tie.Need-add-in-requires
+add-in-requires c κs = search needs
+
+-- src/lib.rt:39:5
+seal-first-requires : tie.Need-seal-first-requires
+seal-first-requires c κs = search needs
+
+-- src/lib.rt:26:1
+same-length : tie.Need-same-length
+same-length c = search needs
+
+-- src/lib.rt:26:1
+returns : tie.Need-returns
+returns c = c .before .before .seal-first .ensures ∙ ap (sealBytes (c .before .before .before .before .before .before .before .before .before .before .before .args .c) (c .before .before .before .before .before .before .before .before .before .before .before .args .t) (keysOf (c .before .before .before .before .before .before .before .before .before .before .before .args .c) (now (c .before .before .before .before .before .before .before .before .before .before .before .args .ks)))) (c .before .before .before .before .before .before .add-in .ensures)
+
+pub link-spec : {M : Type 1} → statement M
+link-spec = tie.close (tie.spec add-in-requires seal-first-requires same-length returns)

@@ -1,0 +1,2 @@
+-- The blocks that chaining makes.
+pub mod Links

@@ -1,0 +1,2 @@
+-- Laws of the first block.
+pub mod Laws

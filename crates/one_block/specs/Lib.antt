@@ -1,0 +1,2 @@
+-- The first block of a cell, by its bytes.
+pub mod Held

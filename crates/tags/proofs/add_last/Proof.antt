@@ -1,0 +1,69 @@
+use mathlib.Core.Path.{_≡_, refl, sym, ap, ap₂, subst, _∙_}
+use mathlib.Core.List.{_++_}
+use Prim.Native.Nat.{ℕ, _+_, _-_, _*_, _/_, _%_, _≤_, _<_}
+use native.Mathlib.Nat.{suc-mul}
+use native.Mathlib.Omega.{arith}
+use lib.ListN.{getD, take, drop, length}
+use lib.Seq.{take-at}
+use denote.Ref.{now}
+use Rattle.kalyna.specs.Block.{sealBytes}
+use Rattle.kalyna.proofs.Bytes.{sealBytes-bytes}
+use Rattle.blocks.specs.Blocks.{keysOf}
+use Rattle.modes.specs.Blocks.{xorBlock}
+use Rattle.modes.proofs.Mac.{mac-bytes}
+use Rattle.one_block.specs.Held.{held}
+use Rattle.chains.proofs.Laws.{given, width-le, width-lt}
+use Rattle.tags.proofs.Laws.{number-held, zero-held, mask-whole, mask-filled, last-whole, last-begun, last-room, added-whole, added-filled, mac-is}
+use Rattle.tags.proofs.Same.{differ, differ-more, differ-none, differ-same, differ-other, picked-one, picked-zero, chk-is, chk-out}
+use borrow.Author.Needs.{needs}
+use Rattle.tags.proofs.add_last.Statement.{statement}
+use Rattle.tags.proofs.add_last.Tie as tie
+use Rattle.tags.proofs.add_last.Reads as reads
+use Rattle.tags.proofs.add_last.Lts as lts
+use Rattle.fills.proofs.add_filled.Reads as add-filled-reads
+use Rattle.one_block.proofs.add_in.Reads as add-in-reads
+
+-- src/lib.rt:48:22
+mul-if1 : tie.Need-mul-if1
+mul-if1 c = search needs
+
+-- src/lib.rt:48:8
+rem-if1 : tie.Need-rem-if1
+rem-if1 c = omega (arith, width-lt (c .before .before .args .c) (c .before .before .pre .0))
+
+-- src/lib.rt:49:9
+add-in-requires : tie.Need-add-in-requires
+add-in-requires c κs = (c .before .before .before .before .pre .1, omega (arith, c .before .before .before .before .pre .3, last-whole (8 * c .before .before .before .before .args .c) (now (c .before .before .before .before .args .text)) (width-lt (c .before .before .before .before .args .c) (c .before .before .before .before .pre .0)) (c .before .before .before .before .pre .2) (c .before .if1 .taken), suc-mul ((length (now (c .before .before .before .before .args .text)) - 1) / (8 * c .before .before .before .before .args .c)) (8 * c .before .before .before .before .args .c)))
+
+-- src/lib.rt:50:9
+same-length : tie.Need-same-length
+same-length c = search needs
+
+-- src/lib.rt:50:9
+returns : tie.Need-returns
+returns c = c .before .before .add-in .ensures ∙ ap (xorBlock (8 * c .before .before .before .before .before .before .before .args .c) (held (c .before .before .before .before .before .before .before .args .c) (now (c .before .before .before .before .before .before .before .args .s)))) (ap (λ n. take (8 * c .before .before .before .before .before .before .before .args .c) (drop n (now (c .before .before .before .before .before .before .before .args .text)))) (c .before .before .before .before .before .before .before .pre .3) ∙ added-whole (8 * c .before .before .before .before .before .before .before .args .c) (now (c .before .before .before .before .before .before .before .args .text)) (width-lt (c .before .before .before .before .before .before .before .args .c) (c .before .before .before .before .before .before .before .pre .0)) (c .before .before .before .before .before .before .before .pre .2) (c .before .before .before .before .if1 .taken))
+
+-- src/lib.rt:52:5
+add-filled-requires : tie.Need-add-filled-requires
+add-filled-requires c κs = (c .before .before .before .before .pre .0, c .before .before .before .before .pre .1, c .before .before .before .before .pre .3 ∙ ap (λ q. q * (8 * c .before .before .before .before .args .c)) (last-begun (8 * c .before .before .before .before .args .c) (now (c .before .before .before .before .args .text)) (width-lt (c .before .before .before .before .args .c) (c .before .before .before .before .pre .0)) (c .before .before .before .before .pre .2) (c .before .if1 .left)))
+
+-- src/lib.rt:44:1
+same-length-2 : tie.Need-same-length-2
+same-length-2 c = search needs
+
+-- src/lib.rt:44:1
+returns-2 : tie.Need-returns-2
+returns-2 c = c .before .before .add-filled .ensures ∙ ap (xorBlock (8 * c .before .before .before .before .before .before .before .args .c) (held (c .before .before .before .before .before .before .before .args .c) (now (c .before .before .before .before .before .before .before .args .s)))) (added-filled (8 * c .before .before .before .before .before .before .before .args .c) (now (c .before .before .before .before .before .before .before .args .text)) (width-lt (c .before .before .before .before .before .before .before .args .c) (c .before .before .before .before .before .before .before .pre .0)) (c .before .before .before .before .before .before .before .pre .2) (c .before .before .before .before .if1 .left))
+
+pub add-last-spec : {M : Type 1} → statement M
+add-last-spec =
+    tie.close
+    (tie.spec
+    mul-if1
+    rem-if1
+    add-in-requires
+    same-length
+    returns
+    add-filled-requires
+    same-length-2
+    returns-2)
