@@ -33,7 +33,7 @@ slice-aggregate-same-tag : tie.Need-slice-aggregate-same-tag
 slice-aggregate-same-tag c = search needs
 
 same-tag-requires : tie.Need-same-tag-requires
-same-tag-requires c κs = (omega (arith, width-le (c .before .before .before .before .before .before .before .before .args .c) (c .before .before .before .before .before .before .before .before .pre .1), c .before .before .before .before .before .before .before .before .pre .5, c .before .before .mac .kept .1 .1 .1 .1 .1 .0), omega (arith, width-le (c .before .before .before .before .before .before .before .before .args .c) (c .before .before .before .before .before .before .before .before .pre .1), c .before .before .before .before .before .before .before .before .pre .5))
+same-tag-requires c κs = (omega (arith, width-le (c .before .before .before .before .before .before .before .before .args .c) (c .before .before .before .before .before .before .before .before .pre .1), c .before .before .before .before .before .before .before .before .pre .5, c .before .before .mac .kept .1 .1 .1 .1 .1 .0), omega (arith, width-le (c .before .before .before .before .before .before .before .before .args .c) (c .before .before .before .before .before .before .before .before .pre .1), c .before .before .before .before .before .before .before .before .pre .5), c .before .before .before .before .before .before .before .before .pre .8)
 
 slice-write-out : tie.Need-slice-write-out
 slice-write-out c = search needs
