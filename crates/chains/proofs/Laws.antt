@@ -1,9 +1,9 @@
 -- Blocks chained one after another, and stored.
-use mathlib.Core.Path.{_≡_, refl, sym, ap, ap₂, _∙_, subst}
+use mathlib.Core.Path.{_≡_, refl, sym, ap, ap₂, _∙_}
 use mathlib.Core.Logic.{_⊎_, ⊎-elim}
-use mathlib.Core.List.{List, [], _++_, append-assoc}
-use Prim.Native.Nat.{ℕ, zero, suc, _+_, _-_, _*_, _/_, _%_, _<_, _≤_}
-use native.Mathlib.Nat.{zero-add, mul-le-mul-right, zero-mul, suc-mul, div-add-mod', mul-comm}
+use mathlib.Core.List.{List, _++_, append-assoc}
+use Prim.Native.Nat.{ℕ, suc, _+_, _*_, _/_, _%_, _<_, _≤_}
+use native.Mathlib.Nat.{zero-add, mul-le-mul-right, zero-mul, suc-mul, div-add-mod'}
 use native.Mathlib.Numerals.{add-one}
 use native.Mathlib.Omega.{arith}
 use lib.Arith.{digits-div, digits-mod}
@@ -11,7 +11,6 @@ use lib.ListN.{getD, take, drop, length}
 use lib.Seq.{take-at, drop-at, drop-drop, take-all}
 use Rattle.common.specs.Places.{tab}
 use Rattle.common.proofs.Places.{length-tab, tab-ext, tab-add, tab-self}
-use Rattle.kalyna.specs.State.{Bytes}
 use Rattle.blocks.specs.Blocks.{Width}
 use Rattle.modes.specs.Blocks.{blockAt, xorBlock}
 use Rattle.modes.specs.Chain.{chained, cbc}

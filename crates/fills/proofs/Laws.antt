@@ -6,7 +6,7 @@ use native.Mathlib.Nat.{zero-add, suc-mul, mul-comm, div-add-mod', mod-lt, mul-m
 use native.Mathlib.Numerals.{add-one}
 use native.Mathlib.Decide.{decLt}
 use native.Mathlib.Omega.{arith}
-use lib.ListN.{getD, take, drop, length, set, replicate, length-append, length-drop, length-replicate, List·getD-append}
+use lib.ListN.{getD, take, drop, length, set, replicate, length-drop, length-replicate, List·getD-append}
 use lib.Seq.{getD-append-add, getD-append-seam, getD-take, getD-drop, length-take-le}
 use Rattle.common.specs.Places.{tab}
 use Rattle.common.proofs.Places.{getD-tab, length-tab, tab-ext, tab-add, tab-self}
