@@ -1,9 +1,9 @@
 -- Blocks chained one after another, and stored.
-use mathlib.Core.Path.{_≡_, refl, sym, ap, ap₂, _∙_, subst}
+use mathlib.Core.Path.{_≡_, refl, sym, ap, ap₂, _∙_}
 use mathlib.Core.Logic.{_⊎_, ⊎-elim}
-use mathlib.Core.List.{List, [], _++_, append-assoc}
-use Prim.Native.Nat.{ℕ, zero, suc, _+_, _-_, _*_, _/_, _%_, _<_, _≤_}
-use native.Mathlib.Nat.{zero-add, mul-le-mul-right, zero-mul, suc-mul, div-add-mod', mul-comm}
+use mathlib.Core.List.{List, _++_, append-assoc}
+use Prim.Native.Nat.{ℕ, suc, _+_, _*_, _/_, _%_, _<_, _≤_}
+use native.Mathlib.Nat.{zero-add, mul-le-mul-right, zero-mul, suc-mul, div-add-mod'}
 use native.Mathlib.Numerals.{add-one}
 use native.Mathlib.Omega.{arith}
 use lib.Arith.{digits-div, digits-mod}
@@ -11,11 +11,10 @@ use lib.ListN.{getD, take, drop, length}
 use lib.Seq.{take-at, drop-at, drop-drop, take-all}
 use Rattle.common.specs.Places.{tab}
 use Rattle.common.proofs.Places.{length-tab, tab-ext, tab-add, tab-self}
-use Rattle.kalyna.specs.State.{Bytes}
 use Rattle.blocks.specs.Blocks.{Width}
 use Rattle.modes.specs.Blocks.{blockAt, xorBlock}
 use Rattle.modes.specs.Chain.{chained, cbc}
-use Rattle.chains.specs.Links.{links}
+use Rattle.chains.specs.Links.{linked, links}
 
 -- all of a list that has n bytes
 pub take-drop-all : (n : ℕ) (b : List ℕ) → length b ≡ n → take n (drop 0 b) ≡ b
@@ -59,17 +58,19 @@ module _ (B : ℕ) (E : List ℕ → List ℕ) (iv text : List ℕ) where
 
   pub links-none : (o : List ℕ) → o ≡ links B E iv text 0 ++ drop (0 * B) o
   unfolding links tab
-  links-none o = ap (λ n. tab n (λ m. getD (chained B E iv text (m / B + 1)) (m % B) 0) ++ drop n o) (sym (zero-mul B))
+  links-none o = ap (λ n. tab n (linked B E iv text) ++ drop n o) (sym (zero-mul B))
+
+  -- byte j of block i
+  linked-block : (i j : ℕ) → j < B → linked B E iv text (i * B + j) ≡ getD (chained B E iv text (i + 1)) j 0
+  unfolding linked
+  linked-block i j l = ap₂ (λ (a b : ℕ). getD (chained B E iv text (a + 1)) b 0) (digits-div i l) (digits-mod i l)
 
   -- one more block of them
   pub links-more : (i : ℕ) → length (chained B E iv text (i + 1)) ≡ B → links B E iv text (i + 1) ≡ links B E iv text i ++ chained B E iv text (i + 1)
   unfolding links
   links-more i e =
-      ap (λ n. tab n f) (next-place B i) ∙ tab-add (i * B) B f
-      ∙ ap (λ x. tab (i * B) f ++ x) (tab-ext B _ _ (λ j l. ap₂ (λ (a b : ℕ). getD (chained B E iv text (a + 1)) b 0) (digits-div i l) (digits-mod i l)) ∙ tab-self B _ e)
-    where
-      f : ℕ → ℕ
-      f = λ m. getD (chained B E iv text (m / B + 1)) (m % B) 0
+      ap (λ n. tab n (linked B E iv text)) (next-place B i) ∙ tab-add (i * B) B (linked B E iv text)
+      ∙ ap (λ x. tab (i * B) (linked B E iv text) ++ x) (tab-ext B _ _ (linked-block i) ∙ tab-self B _ e)
 
   -- one more block stored
   pub links-stored : (i at : ℕ) (o₀ o o′ x : List ℕ) → at ≡ i * B → length x ≡ B → x ≡ chained B E iv text (i + 1) → o ≡ links B E iv text i ++ drop (i * B) o₀
@@ -90,8 +91,8 @@ module _ (B : ℕ) (E : List ℕ → List ℕ) (iv text : List ℕ) where
 
   -- whole blocks
   pub links-all : (n : ℕ) → length text ≡ n * B → links B E iv text n ≡ cbc B E iv text
-  unfolding links cbc
-  links-all n e = ap (λ m. tab m (λ m. getD (chained B E iv text (m / B + 1)) (m % B) 0)) (sym e)
+  unfolding links linked cbc
+  links-all n e = ap (λ m. tab m (linked B E iv text)) (sym e)
 
 -- all blocks chained from the IV, and stored
 pub cbc-is : (B : ℕ) (E : List ℕ → List ℕ) (iv text o o′ h : List ℕ) (n : ℕ) → h ≡ iv → n * B ≡ length text → o′ ≡ links B E h text n ++ drop (n * B) o

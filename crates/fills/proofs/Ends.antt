@@ -1,16 +1,14 @@
 -- Looking for the 80, back through the last block.
-use mathlib.Core.Bool.{Bool, true, false}
-use mathlib.Core.Path.{_≡_, refl, sym, ap, ap₂, _∙_, subst}
+use mathlib.Core.Bool.{Bool}
+use mathlib.Core.Path.{_≡_, sym, ap, ap₂, _∙_}
 use mathlib.Core.List.{List}
-use Prim.Native.Nat.{ℕ, zero, suc, _+_, _-_, _<_, _≤_}
+use Prim.Native.Nat.{ℕ, suc, _+_, _-_, _≤_}
 use native.Mathlib.Omega.{arith}
 use borrow.Author.Tests.{ne-eqb}
-use lib.Dec.{eqb}
 use lib.ListN.{getD, take, length}
 use lib.Seq.{getD-take, length-take-le}
 use Rattle.common.specs.Choice.{pick}
-use Rattle.common.specs.Answer.{Value, Answer}
-use Rattle.common.specs.Answer.Answer.{value, refused}
+use Rattle.common.specs.Answer.Answer.{refused}
 use Rattle.modes.specs.Fill.{marked, unfillAt, unfillFrom, unfill}
 use Rattle.modes.proofs.Fill.{unfill-mark}
 

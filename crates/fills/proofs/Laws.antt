@@ -6,7 +6,7 @@ use native.Mathlib.Nat.{zero-add, suc-mul, mul-comm, div-add-mod', mod-lt, mul-m
 use native.Mathlib.Numerals.{add-one}
 use native.Mathlib.Decide.{decLt}
 use native.Mathlib.Omega.{arith}
-use lib.ListN.{getD, take, drop, length, set, replicate, length-append, length-drop, length-replicate, List·getD-append}
+use lib.ListN.{getD, take, drop, length, set, replicate, length-drop, length-replicate, List·getD-append}
 use lib.Seq.{getD-append-add, getD-append-seam, getD-take, getD-drop, length-take-le}
 use Rattle.common.specs.Places.{tab}
 use Rattle.common.proofs.Places.{getD-tab, length-tab, tab-ext, tab-add, tab-self}
@@ -16,7 +16,7 @@ use Rattle.modes.specs.Chain.{chained, cbc}
 use Rattle.modes.specs.Fill.{fill}
 use Rattle.modes.proofs.Blocks.{length-block, getD-block, place-lt, block-ends}
 use Rattle.modes.proofs.Fill.{length-fill, fill-front, fill-mark, fill-zero}
-use Rattle.chains.specs.Links.{links}
+use Rattle.chains.specs.Links.{linked, links}
 use Rattle.chains.proofs.Laws.{next-place, links-stored, links-all}
 
 zeros : (n k : ℕ) → _≡_ {A = ℕ} (getD (replicate n 0) k 0) 0
@@ -125,7 +125,7 @@ module _ (B : ℕ) (text : List ℕ) (pos : 0 < B) where
     chained-fill (suc i) h = ap E (ap₂ (xorBlock B) (chained-fill i (omega (arith, suc-mul i B))) (block-fill i h))
 
     links-fill : (q : ℕ) → q * B ≤ length text → links B E iv (fill B text) q ≡ links B E iv text q
-    unfolding links
+    unfolding links linked
     links-fill q h =
         tab-ext (q * B) _ _ (λ m l. ap (λ x. getD x (m % B) 0) (chained-fill (m / B + 1) (ends m l)))
       where

@@ -1,10 +1,10 @@
 -- What loading, adding, sealing, opening and storing make of the first block's bytes.
-use mathlib.Core.Path.{_≡_, refl, sym, ap, ap₂, _∙_, subst}
-use mathlib.Core.List.{List, _++_}
-use Prim.Native.Nat.{ℕ, zero, suc, _+_, _-_, _*_, _/_, _%_, _^_, _<_, _≤_}
-use native.Mathlib.Nat.{zero-add, mul-zero}
+use mathlib.Core.Path.{_≡_, sym, ap, ap₂, _∙_, subst}
+use mathlib.Core.List.{List}
+use Prim.Native.Nat.{ℕ, _+_, _*_, _/_, _%_, _^_, _<_, _≤_}
+use native.Mathlib.Nat.{zero-add}
 use native.Mathlib.Omega.{arith}
-use lib.ListN.{getD, take, drop, length, length-drop, replicate}
+use lib.ListN.{getD, take, drop, length, length-drop}
 use lib.Seq.{getD-take, getD-drop, length-take-le}
 use Rattle.common.specs.Places.{tab}
 use Rattle.common.proofs.Places.{getD-tab, length-tab, tab-ext, tab-self}
@@ -15,10 +15,10 @@ use Rattle.field.proofs.PackLaws.{byte-pack, byte-xor, pack-lt}
 use Rattle.words.specs.Words.{wordAt, putWords, blockAt, Walked}
 use Rattle.words.proofs.Laws.{Pieces}
 use Rattle.words.proofs.Walks.{puts-at, word-lt}
-use Rattle.kalyna.specs.State.{State, columnsOf, bytesOf}
+use Rattle.kalyna.specs.State.{State, bytesOf}
 use Rattle.kalyna.specs.Block.{seal, unseal, sealBytes, unsealBytes}
 use Rattle.kalyna.proofs.Bytes.{columns-bytes, bytesOf-bytes}
-use Rattle.modes.specs.Blocks.{xorBlock, blockOf}
+use Rattle.modes.specs.Blocks.{xorBlock}
 use Rattle.modes.proofs.Blocks.{of-bytes}
 use Rattle.one_block.specs.Held.{held}
 

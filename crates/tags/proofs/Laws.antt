@@ -1,17 +1,15 @@
 -- The tag's last block, its mask, and the whole.
-use mathlib.Core.Bool.{Bool, true, false}
 use mathlib.Core.Logic.{_⊎_, ⊎-elim}
 use mathlib.Core.Path.{_≡_, refl, sym, ap, ap₂, _∙_, subst}
-use mathlib.Core.List.{List, [], _∷_, _++_}
+use mathlib.Core.List.{List}
 use Prim.Native.Nat.{ℕ, zero, suc, _+_, _-_, _*_, _/_, _%_, _<_, _≤_}
-use native.Mathlib.Nat.{mod-lt, suc-mul, mul-comm, mul-div-left, zero-mul, div-add-mod', zero-add}
+use native.Mathlib.Nat.{mod-lt, suc-mul, mul-comm, mul-div-left, zero-mul, div-add-mod'}
 use native.Mathlib.Numerals.{add-one}
 use native.Mathlib.Omega.{arith}
 use borrow.Author.Tests.{eq-eqb, ne-eqb}
 use lib.Arith.{digits-div}
 use lib.Dec.{eqb}
-use lib.ListN.{getD, take, drop, length, set, replicate}
-use lib.Seq.{take-at}
+use lib.ListN.{take, drop, length, set, replicate}
 use Rattle.common.specs.Choice.{pick}
 use Rattle.common.specs.Places.{tab}
 use Rattle.field.specs.Column.{byteOf}
@@ -25,7 +23,6 @@ use Rattle.modes.specs.Fill.{fill}
 use Rattle.modes.specs.Mac.{macText, macMask, macOf, mac}
 use Rattle.modes.proofs.Fill.{length-fill}
 use Rattle.one_block.specs.Held.{held}
-use Rattle.chains.proofs.Laws.{given}
 use Rattle.fills.proofs.Laws.{chained-fill}
 
 -- ---- a small number in a cell of zeros

@@ -69,9 +69,9 @@ pub fn mac(tab: &[u8; 8192], ks: &[u64], c: usize, t: usize, text: &[u8], out: &
     one_block::give_out(&s, c, out, 0);
 }
 
-// 9.3: 1 where all bytes of the tag are the leading bytes of the right one, else 0; every byte is compared.
+// 9.3: 1 where all bytes of the tag, at least 8, are the leading bytes of the right one, else 0; every byte is compared.
 pub fn same_tag(tag: &[u8], right: &[u8]) -> u8
-    requires { ⌜ (length (now tag) ≤ length (now right)) × (length (now tag) ≤ 64) ⌝ }
+    requires { ⌜ (length (now tag) ≤ length (now right)) × (length (now tag) ≤ 64) × (8 ≤ length (now tag)) ⌝ }
     ensures { λ r. ⌜ r ≡ pick (same (now (tag .entry)) (take (length (now (tag .entry))) (now (right .entry)))) 1 0 ⌝ }
 {
     let mut d: u64 = 0;
@@ -96,7 +96,7 @@ pub fn chk(
     text: &[u8],
     out: &mut [u8],
 )
-    requires { ⌜ (now tab ≡ sealTable) × Width c × (0 < t) × (t ≤ 18) × (c * (t + 1) ≤ length (now ks)) × (length (now tag) ≤ 8 * c) × (0 < length (now text)) × (0 < length (now out)) ⌝ }
+    requires { ⌜ (now tab ≡ sealTable) × Width c × (0 < t) × (t ≤ 18) × (c * (t + 1) ≤ length (now ks)) × (length (now tag) ≤ 8 * c) × (0 < length (now text)) × (0 < length (now out)) × (8 ≤ length (now tag)) ⌝ }
     ensures { λ r. ⌜ now (out .exit) ≡ chk (8 * c) (sealBytes c t (keysOf c (now (ks .entry)))) (now (tag .entry)) (now (text .entry)) ++ drop 1 (now (out .entry)) ⌝ }
 {
     let mut right = [0u8; 64];

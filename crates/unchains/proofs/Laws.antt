@@ -4,7 +4,6 @@ use mathlib.Core.Logic.{_⊎_}
 use mathlib.Core.List.{List, _++_}
 use Prim.Native.Nat.{ℕ, zero, suc, _+_, _-_, _*_, _/_, _%_, _^_, _<_, _≤_}
 use native.Mathlib.Nat.{zero-add, mul-comm, mul-assoc, mul-suc, mod-lt, div-add-mod', div-lt-iff-lt-mul, mul-le-mul-left, suc-mul, zero-mul, div-eq-of-lt, mod-eq-of-lt}
-use native.Mathlib.Decide.{decLt}
 use native.Mathlib.Omega.{arith}
 use lib.Arith.{digits-div, digits-mod}
 use lib.ListN.{getD, take, drop, length}

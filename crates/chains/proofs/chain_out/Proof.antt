@@ -1,19 +1,18 @@
 use borrow.Author.Needs.{needs}
-use mathlib.Core.Path.{_≡_, refl, sym, ap, ap₂, subst, _∙_}
+use mathlib.Core.Path.{_≡_, refl, sym, ap, _∙_}
 use mathlib.Core.List.{_++_}
-use Prim.Native.Nat.{ℕ, _+_, _-_, _*_, _/_, _%_, _≤_, _<_}
+use Prim.Native.Nat.{_+_, _-_, _*_, _≤_}
 use native.Mathlib.Nat.{zero-mul}
 use native.Mathlib.Omega.{arith}
-use lib.ListN.{getD, take, drop, length}
+use lib.ListN.{drop, length}
 use denote.Ref.{now}
 use Rattle.kalyna.specs.Block.{sealBytes}
 use Rattle.blocks.specs.Blocks.{keysOf}
-use Rattle.modes.specs.Blocks.{xorBlock}
 use Rattle.modes.specs.Chain.{chained}
 use Rattle.one_block.specs.Held.{held}
 use Rattle.one_block.proofs.Laws.{length-held}
 use Rattle.chains.specs.Links.{links}
-use Rattle.chains.proofs.Laws.{take-drop-all, given, width-le, width-lt, block-room, next-place, chained-none, chained-more, links-none, links-stored, links-all, cbc-is, whole-blocks, some-blocks}
+use Rattle.chains.proofs.Laws.{width-le, block-room, next-place, chained-none, chained-more, links-none, links-stored}
 use Rattle.chains.proofs.chain_out.Statement.{statement}
 use Rattle.chains.proofs.chain_out.Tie as tie
 use Rattle.chains.proofs.chain_out.Reads as reads

@@ -1,16 +1,13 @@
-use mathlib.Core.Path.{_≡_, refl, sym, ap, ap₂, subst, _∙_}
-use mathlib.Core.List.{_++_}
-use Prim.Native.Nat.{ℕ, _+_, _-_, _*_, _/_, _%_, _≤_, _<_}
+use mathlib.Core.Path.{refl, ap, _∙_}
+use Prim.Native.Nat.{_*_, _/_}
 use native.Mathlib.Omega.{arith}
-use lib.ListN.{getD, take, drop, length}
+use lib.ListN.{length}
 use denote.Ref.{now}
 use Rattle.kalyna.specs.Block.{sealBytes}
 use Rattle.blocks.specs.Blocks.{keysOf}
-use Rattle.modes.specs.Blocks.{xorBlock}
-use Rattle.one_block.specs.Held.{held}
 use Rattle.one_block.proofs.Laws.{length-held}
 use Rattle.chains.proofs.Laws.{take-drop-all, width-le, width-lt, some-blocks}
-use Rattle.fills.proofs.Laws.{filled-block, last-le, last-lt, filled-room, cbp-is}
+use Rattle.fills.proofs.Laws.{filled-room, cbp-is}
 use borrow.Author.Needs.{needs}
 use Rattle.fills.proofs.cbp.Statement.{statement}
 use Rattle.fills.proofs.cbp.Tie as tie

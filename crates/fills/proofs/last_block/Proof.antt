@@ -1,15 +1,10 @@
 use borrow.Author.Needs.{needs}
-use mathlib.Core.Path.{_≡_, refl, sym, ap, ap₂, subst, _∙_}
-use mathlib.Core.List.{_++_}
-use Prim.Native.Nat.{ℕ, _+_, _-_, _*_, _/_, _%_, _≤_, _<_}
-use native.Mathlib.Nat.{zero-mul}
+use Prim.Native.Nat.{_+_, _-_, _≤_}
 use native.Mathlib.Omega.{arith}
-use lib.ListN.{getD, take, drop, length}
+use lib.ListN.{length}
 use denote.Ref.{now}
 use Rattle.common.proofs.Runs.{Run, run-none}
-use Rattle.modes.specs.Fill.{marked, unfill, unfillFrom}
 use Rattle.fills.proofs.Laws.{filled, filled-text, filled-mark, last-is, last-long, run-store}
-use Rattle.fills.proofs.Ends.{from-end, found, found-none, passed, stopped}
 use Rattle.fills.proofs.last_block.Statement.{statement}
 use Rattle.fills.proofs.last_block.Tie as tie
 use Rattle.fills.proofs.last_block.Reads as reads

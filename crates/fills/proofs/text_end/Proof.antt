@@ -1,14 +1,10 @@
 use borrow.Author.Needs.{needs}
-use mathlib.Core.Path.{_≡_, refl, sym, ap, ap₂, subst, _∙_}
-use mathlib.Core.List.{_++_}
-use Prim.Native.Nat.{ℕ, _+_, _-_, _*_, _/_, _%_, _≤_, _<_}
-use native.Mathlib.Nat.{zero-mul}
+use mathlib.Core.Path.{_≡_, refl, _∙_}
+use Prim.Native.Nat.{_+_, _-_, _≤_}
 use native.Mathlib.Omega.{arith}
-use lib.ListN.{getD, take, drop, length}
+use lib.ListN.{getD, take}
 use denote.Ref.{now}
-use Rattle.common.proofs.Runs.{Run, run-none}
-use Rattle.modes.specs.Fill.{marked, unfill, unfillFrom}
-use Rattle.fills.proofs.Laws.{filled, filled-text, filled-mark, last-is, last-long, run-store}
+use Rattle.modes.specs.Fill.{unfill, unfillFrom}
 use Rattle.fills.proofs.Ends.{from-end, found, found-none, passed, stopped}
 use Rattle.fills.proofs.text_end.Statement.{statement}
 use Rattle.fills.proofs.text_end.Tie as tie

@@ -1,8 +1,7 @@
-use mathlib.Core.Path.{_≡_, refl, sym, ap, ap₂, subst, _∙_}
+use mathlib.Core.Path.{ap, _∙_}
 use mathlib.Core.List.{_++_}
-use Prim.Native.Nat.{ℕ, _+_, _-_, _*_, _≤_, _<_}
-use native.Mathlib.Omega.{arith}
-use lib.ListN.{getD, take, drop, length}
+use Prim.Native.Nat.{_+_, _*_}
+use lib.ListN.{take, drop}
 use denote.Ref.{now}
 use Rattle.one_block.proofs.Laws.{stored}
 use borrow.Author.Needs.{needs}

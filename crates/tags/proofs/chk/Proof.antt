@@ -1,20 +1,12 @@
-use mathlib.Core.Path.{_≡_, refl, sym, ap, ap₂, subst, _∙_}
-use mathlib.Core.List.{_++_}
-use Prim.Native.Nat.{ℕ, _+_, _-_, _*_, _/_, _%_, _≤_, _<_}
-use native.Mathlib.Nat.{suc-mul}
+use Prim.Native.Nat.{_*_}
 use native.Mathlib.Omega.{arith}
-use lib.ListN.{getD, take, drop, length}
-use lib.Seq.{take-at}
 use denote.Ref.{now}
 use Rattle.kalyna.specs.Block.{sealBytes}
 use Rattle.kalyna.proofs.Bytes.{sealBytes-bytes}
 use Rattle.blocks.specs.Blocks.{keysOf}
-use Rattle.modes.specs.Blocks.{xorBlock}
 use Rattle.modes.proofs.Mac.{mac-bytes}
-use Rattle.one_block.specs.Held.{held}
-use Rattle.chains.proofs.Laws.{given, width-le, width-lt}
-use Rattle.tags.proofs.Laws.{number-held, zero-held, mask-whole, mask-filled, last-whole, last-begun, last-room, added-whole, added-filled, mac-is}
-use Rattle.tags.proofs.Same.{differ, differ-more, differ-none, differ-same, differ-other, picked-one, picked-zero, chk-is, chk-out}
+use Rattle.chains.proofs.Laws.{width-le}
+use Rattle.tags.proofs.Same.{chk-is, chk-out}
 use borrow.Author.Needs.{needs}
 use Rattle.tags.proofs.chk.Statement.{statement}
 use Rattle.tags.proofs.chk.Tie as tie
@@ -33,7 +25,7 @@ slice-aggregate-same-tag : tie.Need-slice-aggregate-same-tag
 slice-aggregate-same-tag c = search needs
 
 same-tag-requires : tie.Need-same-tag-requires
-same-tag-requires c κs = (omega (arith, width-le (c .before .before .before .before .before .before .before .before .args .c) (c .before .before .before .before .before .before .before .before .pre .1), c .before .before .before .before .before .before .before .before .pre .5, c .before .before .mac .kept .1 .1 .1 .1 .1 .0), omega (arith, width-le (c .before .before .before .before .before .before .before .before .args .c) (c .before .before .before .before .before .before .before .before .pre .1), c .before .before .before .before .before .before .before .before .pre .5))
+same-tag-requires c κs = (omega (arith, width-le (c .before .before .before .before .before .before .before .before .args .c) (c .before .before .before .before .before .before .before .before .pre .1), c .before .before .before .before .before .before .before .before .pre .5, c .before .before .mac .kept .1 .1 .1 .1 .1 .0), omega (arith, width-le (c .before .before .before .before .before .before .before .before .args .c) (c .before .before .before .before .before .before .before .before .pre .1), c .before .before .before .before .before .before .before .before .pre .5), c .before .before .before .before .before .before .before .before .pre .8)
 
 slice-write-out : tie.Need-slice-write-out
 slice-write-out c = search needs

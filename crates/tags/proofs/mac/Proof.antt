@@ -1,20 +1,14 @@
-use mathlib.Core.Path.{_≡_, refl, sym, ap, ap₂, subst, _∙_}
-use mathlib.Core.List.{_++_}
-use Prim.Native.Nat.{ℕ, _+_, _-_, _*_, _/_, _%_, _≤_, _<_}
-use native.Mathlib.Nat.{suc-mul}
+use mathlib.Core.Path.{refl, ap, _∙_}
+use Prim.Native.Nat.{_*_}
 use native.Mathlib.Omega.{arith}
-use lib.ListN.{getD, take, drop, length}
+use lib.ListN.{take, drop}
 use lib.Seq.{take-at}
 use denote.Ref.{now}
 use Rattle.kalyna.specs.Block.{sealBytes}
 use Rattle.kalyna.proofs.Bytes.{sealBytes-bytes}
 use Rattle.blocks.specs.Blocks.{keysOf}
-use Rattle.modes.specs.Blocks.{xorBlock}
-use Rattle.modes.proofs.Mac.{mac-bytes}
-use Rattle.one_block.specs.Held.{held}
 use Rattle.chains.proofs.Laws.{given, width-le, width-lt}
-use Rattle.tags.proofs.Laws.{number-held, zero-held, mask-whole, mask-filled, last-whole, last-begun, last-room, added-whole, added-filled, mac-is}
-use Rattle.tags.proofs.Same.{differ, differ-more, differ-none, differ-same, differ-other, picked-one, picked-zero, chk-is, chk-out}
+use Rattle.tags.proofs.Laws.{zero-held, last-room, mac-is}
 use borrow.Author.Needs.{needs}
 use Rattle.tags.proofs.mac.Statement.{statement}
 use Rattle.tags.proofs.mac.Tie as tie

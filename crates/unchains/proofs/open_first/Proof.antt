@@ -1,16 +1,9 @@
-use mathlib.Core.Path.{_≡_, refl, sym, ap, ap₂, subst, _∙_}
-use mathlib.Core.List.{_++_}
-use Prim.Native.Nat.{ℕ, _+_, _-_, _*_, _/_, _%_, _≤_, _<_}
 use native.Mathlib.Omega.{arith}
-use lib.ListN.{getD, take, drop, length}
 use denote.Ref.{now}
-use Rattle.kalyna.specs.Block.{unsealBytes}
 use Rattle.blocks.specs.Blocks.{keysOf}
 use Rattle.open_laws.proofs.Equal.{walk-unseal}
-use Rattle.one_block.specs.Held.{held}
 use Rattle.one_block.proofs.Laws.{held-open}
-use Rattle.chains.proofs.Laws.{given, take-drop-all, width-le, width-lt}
-use Rattle.unchains.proofs.Laws.{opened-is, whole-columns, some-whole, stored-all, first-columns}
+use Rattle.chains.proofs.Laws.{given}
 use borrow.Author.Needs.{needs}
 use Rattle.unchains.proofs.open_first.Statement.{statement}
 use Rattle.unchains.proofs.open_first.Tie as tie

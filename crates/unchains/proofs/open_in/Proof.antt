@@ -1,16 +1,10 @@
-use mathlib.Core.Path.{_≡_, refl, sym, ap, ap₂, subst, _∙_}
-use mathlib.Core.List.{_++_}
-use Prim.Native.Nat.{ℕ, _+_, _-_, _*_, _/_, _%_, _≤_, _<_}
+use native.Mathlib.Nat.{mul-one}
 use native.Mathlib.Omega.{arith}
-use lib.ListN.{getD, take, drop, length}
 use denote.Ref.{now}
-use Rattle.kalyna.specs.Block.{unsealBytes}
 use Rattle.blocks.specs.Blocks.{keysOf}
 use Rattle.open_laws.proofs.Equal.{walk-unseal}
-use Rattle.one_block.specs.Held.{held}
-use Rattle.one_block.proofs.Laws.{held-open}
-use Rattle.chains.proofs.Laws.{given, take-drop-all, width-le, width-lt}
-use Rattle.unchains.proofs.Laws.{opened-is, whole-columns, some-whole, stored-all, first-columns}
+use Rattle.chains.proofs.Laws.{given, width-lt}
+use Rattle.unchains.proofs.Laws.{opened-is, first-columns}
 use borrow.Author.Needs.{needs}
 use Rattle.unchains.proofs.open_in.Statement.{statement}
 use Rattle.unchains.proofs.open_in.Tie as tie
@@ -30,7 +24,7 @@ load-requires c κs = search needs
 
 -- src/lib.rt:70:5
 open-blocks-requires : tie.Need-open-blocks-requires
-open-blocks-requires c κs = search needs
+open-blocks-requires c κs = (c .before .before .before .before .before .before .before .before .before .pre .0, c .before .before .before .before .before .before .before .before .before .pre .1, c .before .before .before .before .before .before .before .before .before .pre .2, c .before .before .before .before .before .before .before .before .before .pre .3, c .before .before .before .before .before .before .before .before .before .pre .4, omega (arith, c .before .before .before .before .before .before .before .before .before .pre .7, c .before .before .before .load .kept .0, mul-one (c .before .before .before .before .before .before .before .before .before .args .c), first-columns (c .before .before .before .before .before .before .before .before .before .args .c) (c .before .before .before .before .before .before .before .before .before .args .n) (c .before .before .before .before .before .before .before .before .before .pre .6)), c .before .before .before .before .before .before .before .before .before .pre .5)
 
 -- src/lib.rt:71:5
 xor-in-requires : tie.Need-xor-in-requires
