@@ -1,8 +1,8 @@
 use mathlib.Core.Path.{sym}
 use lib.Seq.{length-take-le}
 use borrow.Author.Needs.{needs}
-use Rattle.refusals.proofs.rows.right.Statement.{statement}
-use Rattle.refusals.proofs.rows.right.Tie as tie
+use Rattle.refusals.proofs.right.Statement.{statement}
+use Rattle.refusals.proofs.right.Tie as tie
 
 returns : tie.Need-returns
 returns c = search needs
@@ -22,17 +22,17 @@ slice-aggregate-expand c = search needs
 expand-requires : tie.Need-expand-requires
 expand-requires c κs = search needs
 
-shared-slice-read-answer : tie.Need-shared-slice-read-answer
-shared-slice-read-answer c = search needs
+shared-slice-read-number-of : tie.Need-shared-slice-read-number-of
+shared-slice-read-number-of c = search needs
 
 array-share-prefix-out : tie.Need-array-share-prefix-out
 array-share-prefix-out c = search needs
 
-slice-aggregate-answer : tie.Need-slice-aggregate-answer
-slice-aggregate-answer c = sym (length-take-le (c .before .before .before .expand .result) (c .before .before .before .expand .last .1 .0) (c .before .before .before .expand .ensures))
+slice-aggregate-number-of : tie.Need-slice-aggregate-number-of
+slice-aggregate-number-of c = sym (length-take-le (c .before .before .before .expand .result) (c .before .before .before .expand .last .1 .0) (c .before .before .before .expand .ensures))
 
-answer-requires : tie.Need-answer-requires
-answer-requires c κs = search needs
+number-of-requires : tie.Need-number-of-requires
+number-of-requires c κs = search needs
 
 byte-at-requires : tie.Need-byte-at-requires
 byte-at-requires c κs = search needs
@@ -50,9 +50,9 @@ right-spec =
     part-expand-end
     slice-aggregate-expand
     expand-requires
-    shared-slice-read-answer
+    shared-slice-read-number-of
     array-share-prefix-out
-    slice-aggregate-answer
-    answer-requires
+    slice-aggregate-number-of
+    number-of-requires
     byte-at-requires
     returns-2)

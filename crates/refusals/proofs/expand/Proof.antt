@@ -3,8 +3,8 @@ use lib.ListN.{length}
 use native.Mathlib.Omega.{arith}
 use mathlib.Core.Path.{_≡_}
 use borrow.Author.Needs.{needs}
-use Rattle.refusals.proofs.rows.expand.Statement.{statement}
-use Rattle.refusals.proofs.rows.expand.Tie as tie
+use Rattle.refusals.proofs.expand.Statement.{statement}
+use Rattle.refusals.proofs.expand.Tie as tie
 
 abbrev Inv-loop : tie.InvT-loop
 Inv-loop s out₀ i₀ o₀ out i o = (o ≤ length out) × (length out ≡ length out₀)

@@ -2,8 +2,8 @@ use borrow.Author.Needs.{needs}
 use Prim.Native.Nat.{_≤_, _-_}
 use lib.ListN.{length}
 use mathlib.Core.Path.{_≡_}
-use Rattle.refusals.proofs.rows.put.Statement.{statement}
-use Rattle.refusals.proofs.rows.put.Tie as tie
+use Rattle.refusals.proofs.put.Statement.{statement}
+use Rattle.refusals.proofs.put.Tie as tie
 
 abbrev Inv-loop : tie.InvT-loop
 Inv-loop out₀ o b n e at₀ out at = (at ≤ e) × (e ≤ length out) × (length out ≡ length out₀)
