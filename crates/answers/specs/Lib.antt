@@ -1,0 +1,2 @@
+-- What a call tells.
+pub mod Told

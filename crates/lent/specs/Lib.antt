@@ -1,0 +1,2 @@
+-- The tables that cipher calls are lent.
+pub mod Lent

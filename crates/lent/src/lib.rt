@@ -1,0 +1,1 @@
+// The tables that cipher calls are lent: definitions alone.
