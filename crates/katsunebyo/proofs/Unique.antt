@@ -2,8 +2,10 @@
 use mathlib.Core.Path.{_≡_, ap, sym, _∙_}
 use mathlib.Core.List.{List}
 use Prim.Native.Nat.{ℕ}
-use Rattle.common.specs.Answer.{Value, deliver}
+use Rattle.common.specs.Answer.{Value, Delivered, deliver}
 use Rattle.common.proofs.Unique.{by-equation}
+use Rattle.answers.specs.Told.{numberOf, countOf, toldOf}
+use Rattle.answers.specs.declared.Told.{Told}
 use Rattle.modes.specs.Cell.{Call, cell}
 use Rattle.entries.specs.Seen.{seen}
 
@@ -23,3 +25,21 @@ module _ (f : Call) (suite : ℕ) (key side text : Value) (out : List ℕ) (r r�
   pub one-output : o ≡ o′
   unfolding seen
   one-output = ap (λ d. d .out) same
+
+-- The same of every function that tells: number, length and every output byte are determined by what is delivered (`handing::hand`, `sealings::seal_call`, `openings::open_call`,
+-- `calls::call`, `entries::sealed`, `entries::opened`, and the plain calls).
+module _ (d : Delivered) (t t′ : Told) (o o′ : List ℕ) (e : toldOf t o ≡ d) (e′ : toldOf t′ o′ ≡ d) where
+  told-same : toldOf t o ≡ toldOf t′ o′
+  told-same = by-equation d (toldOf t o) (toldOf t′ o′) e e′
+
+  pub told-number : numberOf t ≡ numberOf t′
+  unfolding toldOf
+  told-number = ap (λ x. x .number) told-same
+
+  pub told-length : countOf t ≡ countOf t′
+  unfolding toldOf
+  told-length = ap (λ x. x .count) told-same
+
+  pub told-output : o ≡ o′
+  unfolding toldOf
+  told-output = ap (λ x. x .out) told-same
