@@ -26,7 +26,8 @@ pub pick-false : {A : Type 0} (b : Bool) (x y : A) → b ≡ false → pick b x 
 unfolding pick
 pick-false b x y e = rw e
 
-unfoldable allBelow : ℕ → (ℕ → Bool) → Bool
+-- whether a test holds below n
+unfoldable pub allBelow : ℕ → (ℕ → Bool) → Bool
 allBelow zero f = true
 allBelow (suc n) f = pick (f n) (allBelow n f) false
 
@@ -38,7 +39,7 @@ unfolding pick
 pick-both true c e = (refl, e)
 pick-both false c e = absurd (false-true e)
 
-all-at : (n : ℕ) (f : ℕ → Bool) (i : ℕ) → allBelow n f ≡ true → i < n → f i ≡ true
+pub all-at : (n : ℕ) (f : ℕ → Bool) (i : ℕ) → allBelow n f ≡ true → i < n → f i ≡ true
 unfolding allBelow
 all-at zero f i e h = absurd (omega arith)
 all-at (suc n) f i e h =
