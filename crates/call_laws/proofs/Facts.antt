@@ -11,6 +11,7 @@ use Rattle.suites.specs.declared.Suite.{Suite}
 use Rattle.suites.specs.declared.Named.the-variants.{Known}
 use Rattle.blocks.specs.Blocks.{Width}
 use Rattle.key_laws.specs.Turns.{Sized}
+use Rattle.key_laws.proofs.Turns.{width-le, width-pos}
 use Rattle.suite_laws.specs.Row.{Row}
 use Rattle.suite_laws.proofs.Rows.{known-row}
 use Rattle.modes.specs.Cell.{Call, Side, Shape, sideOf, shapeOf, sealing, opening}
@@ -27,6 +28,16 @@ use Rattle.judging.proofs.Joins.{Passes, Long, made-long, cleared-passes}
 module _ (g : Call) (s : Suite) (key side text : Value) (out : List ℕ) (c : Cleared g s (length key) (length side) (length text) (length out)) where
   pub row : Row s
   row = known-row (c .number) s (c .known)
+
+  pub wide : s .columns ≤ 8
+  wide = width-le (s .columns) (row .width)
+
+  pub some-wide : 0 < s .columns
+  some-wide = width-pos (s .columns) (row .width)
+
+  -- the scheduled keys, 160 columns of them
+  pub keys-room : (ks : List ℕ) → length ks ≡ 160 → s .columns * (s .rounds + 1) ≤ length ks
+  keys-room ks e = subst (λ n. s .columns * (s .rounds + 1) ≤ n) (sym e) (row .room)
 
   pub passes : Passes g s key side text out
   passes = cleared-passes g s key side text out c

@@ -4,7 +4,6 @@ use mathlib.Core.List.{List, _++_}
 use Prim.Native.Nat.{ℕ, _+_, _*_, _/_, _%_, _<_, _≤_}
 use native.Mathlib.Nat.{mul-le-mul-right, suc-mul, zero-mul}
 use native.Mathlib.Omega.{arith}
-use mathlib.Core.Logic.{_⊎_, ⊎-elim}
 use lib.ListN.{length, drop}
 use Rattle.common.specs.Answer.{Value, Answer, deliver}
 use Rattle.common.specs.Answer.Answer.{value}
@@ -28,18 +27,12 @@ use Rattle.judging.specs.Cleared.{Cleared}
 use Rattle.call_laws.proofs.Same.{keysFor, keys-long, sealing-is}
 use Rattle.call_laws.proofs.Facts as facts
 
-width-le : (c : ℕ) → Width c → c ≤ 8
-width-le c w = ⊎-elim (λ e. omega arith) (λ w. ⊎-elim (λ e. omega arith) (λ e. omega arith) w) w
-
-width-some : (c : ℕ) → Width c → 0 < c
-width-some c w = ⊎-elim (λ e. omega arith) (λ w. ⊎-elim (λ e. omega arith) (λ e. omega arith) w) w
-
 module _ (g : Call) (s : Suite) (key side text : Value) (out : List ℕ) (cl : Cleared g s (length key) (length side) (length text) (length out)) (ks : List ℕ) (ek : ks ≡ keysFor s key) where
   row : Row s
   row = facts.row g s key side text out cl
 
   keys-room : s .columns * (s .rounds + 1) ≤ length ks
-  keys-room = subst (λ n. s .columns * (s .rounds + 1) ≤ n) (sym (ap length ek ∙ keys-long s key)) (row .room)
+  keys-room = facts.keys-room g s key side text out cl ks (ap length ek ∙ keys-long s key)
 
   -- what all of them ask of the suite and its keys
   abbrev pub Base : Type 0
@@ -85,18 +78,12 @@ module _ (g : Call) (s : Suite) (key side text : Value) (out : List ℕ) (cl : C
   chk-needs q = (facts.tag-upto g s key side text out cl (ap sideOf q), facts.any-some g s key side text out cl (ap shapeOf q), facts.room g s key side text out cl 1 (ap (λ h. lengthBefore h (8 * s .columns) (length text)) q), facts.tag-from g s key side text out cl (ap sideOf q))
 
   -- the numbers that the code counts with are small
-  pub wide : s .columns ≤ 8
-  wide = width-le (s .columns) (row .width)
-
-  pub some-wide : 0 < s .columns
-  some-wide = width-some (s .columns) (row .width)
-
   pub filled-short : g ≡ Call.cbp → 8 * s .columns * (length text / (8 * s .columns) + 1) ≤ 1024
   unfolding shapeOf
   filled-short q = subst (λ B. B * (length text / B + 1) ≤ 1024) (row .block) (subst (λ h. TextShort (shapeOf h) (blockBytes s) (length text)) q (facts.passes g s key side text out cl .past .text-short))
 
   pub quotient-short : g ≡ Call.cbp → length text / (8 * s .columns) + 1 ≤ 1024
-  quotient-short q = small (8 * s .columns) (length text / (8 * s .columns) + 1) (omega (arith, some-wide)) (filled-short q)
+  quotient-short q = small (8 * s .columns) (length text / (8 * s .columns) + 1) (omega (arith, facts.some-wide g s key side text out cl)) (filled-short q)
     where
       small : (b m : ℕ) → 0 < b → b * m ≤ 1024 → m ≤ 1024
       small b m p h = omega (arith, mul-le-mul-right m p, suc-mul 0 m, zero-mul m)
