@@ -8,47 +8,38 @@ use Rattle.suite_laws.specs.Row.{Row}
 use Rattle.suite_laws.proofs.Rows.{known-row}
 use Rattle.seal_block.proofs.Laws.{width-le}
 use borrow.Author.Needs.{needs}
-use Rattle.vectors.proofs.round_keys.Statement.{statement}
-use Rattle.vectors.proofs.round_keys.Tie as tie
-use Rattle.vectors.proofs.round_keys.Reads as reads
-use Rattle.vectors.proofs.round_keys.Lts as lts
+use Rattle.vectors.proofs.schedules.round_keys.Statement.{statement}
+use Rattle.vectors.proofs.schedules.round_keys.Tie as tie
+use Rattle.vectors.proofs.schedules.round_keys.Reads as reads
+use Rattle.vectors.proofs.schedules.round_keys.Lts as lts
 use Rattle.keys.proofs.schedule.Reads as schedule-reads
 use Rattle.seal_table.proofs.table.Reads as table-reads
 use Rattle.suites.proofs.suite_of.Reads as suite-of-reads
 
--- src/main.rt:28:27
 suite-of-requires : tie.Need-suite-of-requires
 suite-of-requires c κs = search needs
 
--- src/main.rt:28:22
 enum-known-s : tie.Need-enum-known-s
 enum-known-s c = search needs
 
--- src/main.rt:29:9
 enum-told : tie.Need-enum-told
 enum-told c = search needs
 
--- src/main.rt:29:9
 returns : tie.Need-returns
 returns c = search needs
 
--- src/main.rt:33:21
 mul-if1 : tie.Need-mul-if1
 mul-if1 c = search needs
 
--- src/main.rt:34:9
 returns-2 : tie.Need-returns-2
 returns-2 c = search needs
 
--- src/main.rt:36:13
 table-requires : tie.Need-table-requires
 table-requires c κs = search needs
 
--- src/main.rt:37:5
 schedule-requires : tie.Need-schedule-requires
 schedule-requires c κs = let row : Row (c .before .before .before .before .before .before .s .given .0 .0) = known-row (c .before .before .before .before .before .before .before .before .before .before .args .suite) (c .before .before .before .before .before .before .s .given .0 .0) (sym (c .before .before .before .before .before .before .before .before .suite-of .ensures) ∙ c .before .before .before .before .before .before .s .given .1) in (c .before .table .ensures, row .sized, c .before .before .if1 .left, row .even, row .most)
 
--- src/main.rt:27:1
 returns-3 : tie.Need-returns-3
 returns-3 c = search needs
 
