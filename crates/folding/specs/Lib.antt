@@ -1,0 +1,3 @@
+-- Folding read from the top.
+pub mod TopDown
+pub mod Parts
