@@ -3,3 +3,4 @@ pub mod TopDown
 pub mod Sizes
 pub mod Idle
 pub mod Parts
+pub mod Folded
