@@ -1,0 +1,3 @@
+-- Laws of answers in slots.
+pub mod Settling
+pub mod Standing
