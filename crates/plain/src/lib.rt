@@ -1,37 +1,13 @@
-// The plain calls of document 01, section 5, on separate buffers: `cat`, `xor`, `eq`, `head`; and a value handed out as it stands.
+// The plain calls of document 01, section 5, on separate buffers: `cat`, `xor`, `eq`, `head`.
 ghost use mathlib.Core.Path.{_≡_};
 ghost use mathlib.Core.List.{_++_};
-ghost use Prim.Native.Nat.{_+_, _≤_};
-ghost use lib.ListN.{length, take, drop};
+ghost use Prim.Native.Nat.{_≤_};
+ghost use lib.ListN.{length, drop};
 ghost use Rattle.common.specs.Choice.{pick};
 ghost use Rattle.common.specs.Answer.{deliver};
-ghost use Rattle.common.specs.Answer.Answer.{value};
 ghost use Rattle.meaning.specs.Real.{cat, xorBytes, xor, same, eq, head};
 ghost use Rattle.answers.specs.Told.{toldOf};
 use answers::Told;
-
-// A value written into the output from a place on.
-fn put(out: &mut [u8], at: usize, v: &[u8])
-    requires { ⌜ at + length (now v) ≤ length (now out) ⌝ }
-    ensures { λ r. ⌜ now (out .exit) ≡ take at (now (out .entry)) ++ (now (v .entry) ++ drop (at + length (now (v .entry))) (now (out .entry))) ⌝ }
-{
-    let mut i: usize = 0;
-    while i < v.len() {
-        out[at + i] = v[i];
-        i += 1;
-    }
-}
-
-// A value as it stands.
-pub fn hand(v: &[u8], out: &mut [u8]) -> Told
-    ensures { λ r. ⌜ toldOf r (now (out .exit)) ≡ deliver (value (now (v .entry))) (now (out .entry)) ⌝ }
-{
-    if out.len() < v.len() {
-        return Told::Refused(9);
-    }
-    put(out, 0, v);
-    Told::Done(v.len())
-}
 
 pub fn cat(a: &[u8], b: &[u8], out: &mut [u8]) -> Told
     ensures { λ r. ⌜ toldOf r (now (out .exit)) ≡ deliver (cat (now (a .entry)) (now (b .entry))) (now (out .entry)) ⌝ }
@@ -46,8 +22,8 @@ pub fn cat(a: &[u8], b: &[u8], out: &mut [u8]) -> Told
     if out.len() < n {
         return Told::Refused(9);
     }
-    put(out, 0, a);
-    put(out, a.len(), b);
+    handing::put(out, 0, a);
+    handing::put(out, a.len(), b);
     Told::Done(n)
 }
 
@@ -130,5 +106,5 @@ pub fn head(n: &[u8], a: &[u8], out: &mut [u8]) -> Told
     if a.len() < k {
         return Told::Refused(12);
     }
-    hand(&a[..k], out)
+    handing::hand(&a[..k], out)
 }

@@ -6,7 +6,7 @@ use Rattle.plain.proofs.cat.Statement.{statement}
 use Rattle.plain.proofs.cat.Tie as tie
 use Rattle.plain.proofs.cat.Reads as reads
 use Rattle.plain.proofs.cat.Lts as lts
-use Rattle.plain.proofs.put.Reads as put-reads
+use Rattle.handing.proofs.put.Reads as put-reads
 
 -- src/lib.rt:40:9
 returns : tie.Need-returns

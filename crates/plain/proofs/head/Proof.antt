@@ -9,7 +9,7 @@ use Rattle.plain.proofs.head.Statement.{statement}
 use Rattle.plain.proofs.head.Tie as tie
 use Rattle.plain.proofs.head.Reads as reads
 use Rattle.plain.proofs.head.Lts as lts
-use Rattle.plain.proofs.hand.Reads as hand-reads
+use Rattle.handing.proofs.hand.Reads as hand-reads
 
 -- src/lib.rt:127:9
 returns : tie.Need-returns

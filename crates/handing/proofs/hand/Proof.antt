@@ -1,12 +1,12 @@
 use native.Mathlib.Omega.{arith}
 use mathlib.Core.Path.{refl}
-use Rattle.plain.proofs.Giving.{lacks, gives, hand-out}
+use Rattle.handing.proofs.Giving.{lacks, gives, hand-out}
 use borrow.Author.Needs.{needs}
-use Rattle.plain.proofs.hand.Statement.{statement}
-use Rattle.plain.proofs.hand.Tie as tie
-use Rattle.plain.proofs.hand.Reads as reads
-use Rattle.plain.proofs.hand.Lts as lts
-use Rattle.plain.proofs.put.Reads as put-reads
+use Rattle.handing.proofs.hand.Statement.{statement}
+use Rattle.handing.proofs.hand.Tie as tie
+use Rattle.handing.proofs.hand.Reads as reads
+use Rattle.handing.proofs.hand.Lts as lts
+use Rattle.handing.proofs.put.Reads as put-reads
 
 -- src/lib.rt:30:9
 returns : tie.Need-returns

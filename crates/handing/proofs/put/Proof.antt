@@ -3,12 +3,12 @@ use Prim.Native.Nat.{_≤_, _-_}
 use native.Mathlib.Omega.{arith}
 use lib.ListN.{length, getD}
 use mathlib.Core.Path.{refl}
-use Rattle.plain.proofs.Giving.{put-whole}
+use Rattle.handing.proofs.Giving.{put-whole}
 use borrow.Author.Needs.{needs}
-use Rattle.plain.proofs.put.Statement.{statement}
-use Rattle.plain.proofs.put.Tie as tie
-use Rattle.plain.proofs.put.Reads as reads
-use Rattle.plain.proofs.put.Lts as lts
+use Rattle.handing.proofs.put.Statement.{statement}
+use Rattle.handing.proofs.put.Tie as tie
+use Rattle.handing.proofs.put.Reads as reads
+use Rattle.handing.proofs.put.Lts as lts
 
 abbrev Inv-loop : tie.InvT-loop
 Inv-loop out₀ at v i₀ out i = (i ≤ length v) × Run (λ j. getD v j 0) at out₀ i out

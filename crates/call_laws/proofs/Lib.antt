@@ -1,0 +1,3 @@
+-- What past its checks a cipher call meets.
+pub mod Same
+pub mod Facts

@@ -1,0 +1,1 @@
+// What past its checks a cipher call meets, for every suite. No code.

@@ -1,0 +1,2 @@
+-- Laws of whole calls.
+pub mod Ways

@@ -1,0 +1,6 @@
+-- Laws of evaluating.
+pub mod Pieces
+pub mod Shaped
+pub mod Readied
+pub mod Meant
+pub mod Ways

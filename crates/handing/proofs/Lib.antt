@@ -1,0 +1,2 @@
+-- Laws of handing out.
+pub mod Giving

@@ -1,0 +1,5 @@
+-- Laws of the checks.
+pub mod Calls
+pub mod Tests
+pub mod Steps
+pub mod Joins

@@ -1,0 +1,3 @@
+-- The checks in their order.
+pub mod Order
+pub mod Cleared

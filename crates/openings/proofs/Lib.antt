@@ -1,0 +1,3 @@
+-- Laws of the calls that open.
+pub mod Calls
+pub mod Laws
