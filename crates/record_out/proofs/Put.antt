@@ -5,10 +5,10 @@ use Prim.Native.Nat.{ℕ, _+_, _/_, _%_, _≤_}
 use native.Mathlib.Nat.{add-zero}
 use native.Mathlib.Omega.{arith}
 use native.Mathlib.Numerals.{add-one, add-two, add-three}
-use lib.ListN.{length, take, drop, getD, set, length-drop, length-append, take-append-drop}
+use lib.ListN.{length, take, drop, set, length-drop, length-append, take-append-drop}
 use lib.Seq.{length-take-le, take-at, drop-at, drop-append-add, drop-drop, take-append-le, take-take, sets, sets-eq}
 use Rattle.common.specs.Places.{tab}
-use Rattle.common.proofs.Places.{length-tab, tab-self}
+use Rattle.common.proofs.Places.{length-tab}
 use Rattle.common.proofs.Runs.{Run, run-whole}
 use Rattle.records.specs.Record.{recordOf}
 use Rattle.record_out.specs.Put.{put}
@@ -79,9 +79,3 @@ leaf-stores l m o k b h e =
 pub put-run : (f : ℕ → ℕ) (at : ℕ) (o₀ : List ℕ) (i : ℕ) (o : List ℕ) → Run f at o₀ i o → o ≡ put o₀ at (tab i f)
 unfolding put
 put-run f at o₀ i o r = run-whole f at o₀ i o r ∙ ap (λ (n : ℕ). take at o₀ ++ (tab i f ++ drop (at + n) o₀)) (sym (length-tab i f))
-
--- a whole stretch was stored
-pub copied : (v : List ℕ) (at : ℕ) (o₀ : List ℕ) (i : ℕ) (o : List ℕ) → Run (λ j. getD v j 0) at o₀ i o → i ≤ length v → length v ≤ i → o ≡ put o₀ at v
-copied v at o₀ i o r h g =
-    let e : i ≡ length v = omega arith in
-    put-run (λ j. getD v j 0) at o₀ i o r ∙ ap (put o₀ at) (ap (λ n. tab n (λ j. getD v j 0)) e ∙ tab-self (length v) v refl)

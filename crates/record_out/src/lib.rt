@@ -26,23 +26,11 @@ pub fn put_leaf(out: &mut [u8], o: usize, k: usize, b: u8)
     out[o + 4] = b;
 }
 
-// All bytes of a stretch, in their order.
-pub fn copy_in(out: &mut [u8], o: usize, v: &[u8])
-    requires { ⌜ o + length (now v) ≤ length (now out) ⌝ }
-    ensures { λ _. ⌜ now (out .exit) ≡ put (now (out .entry)) o (now (v .entry)) ⌝ }
-{
-    let mut i: usize = 0;
-    while i < v.len() {
-        out[o + i] = v[i];
-        i += 1;
-    }
-}
-
 // A record of kind k.
 pub fn put_record(out: &mut [u8], o: usize, k: usize, v: &[u8])
     requires { ⌜ (o + 4 + length (now v) ≤ length (now out)) × (length (now v) < 65536) × (k < 65536) ⌝ }
     ensures { λ _. ⌜ now (out .exit) ≡ put (now (out .entry)) o (recordOf k (now (v .entry))) ⌝ }
 {
-    copy_in(out, o + 4, v);
+    handing::put(out, o + 4, v);
     put_head(out, o, v.len(), k);
 }

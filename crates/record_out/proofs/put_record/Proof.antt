@@ -1,3 +1,4 @@
+use Rattle.record_out.specs.Put.{put}
 use lib.ListN.{length}
 use mathlib.Core.Path.{refl}
 use Rattle.record_out.proofs.Put.{head-before}
@@ -6,29 +7,29 @@ use Rattle.record_out.proofs.put_record.Statement.{statement}
 use Rattle.record_out.proofs.put_record.Tie as tie
 use Rattle.record_out.proofs.put_record.Reads as reads
 use Rattle.record_out.proofs.put_record.Lts as lts
-use Rattle.record_out.proofs.copy_in.Reads as copy-in-reads
+use Rattle.handing.proofs.put.Reads as put-reads
 use Rattle.record_out.proofs.put_head.Reads as put-head-reads
 
--- src/lib.rt:46:18
-add-copy-in : tie.Need-add-copy-in
-add-copy-in c = search needs
+-- src/lib.rt:34:23
+add-put : tie.Need-add-put
+add-put c = search needs
 
--- src/lib.rt:46:5
-copy-in-requires : tie.Need-copy-in-requires
-copy-in-requires c κs = search needs
+-- src/lib.rt:34:5
+put-requires : tie.Need-put-requires
+put-requires c κs = search needs
 
--- src/lib.rt:47:5
+-- src/lib.rt:35:5
 put-head-requires : tie.Need-put-head-requires
 put-head-requires c κs = search needs
 
--- src/lib.rt:42:1
+-- src/lib.rt:30:1
 same-length : tie.Need-same-length
 same-length c = search needs
 
--- src/lib.rt:42:1
+-- src/lib.rt:30:1
 returns : tie.Need-returns
-returns c = head-before (c .before .before .before .before .before .before .before .before .before .before .args .out .now) (c .before .before .before .before .before .before .copy-in .last .0) (c .before .before .put-head .last .0) (c .before .before .before .before .before .before .before .before .before .before .args .o) (c .before .before .before .before .before .before .before .before .before .before .args .k) (length (c .before .before .before .before .before .before .before .before .before .before .args .v .now)) (c .before .before .before .before .before .before .before .before .before .before .args .v .now) (c .before .before .before .before .before .before .before .before .before .before .pre .0) (c .before .before .before .before .before .before .copy-in .ensures) refl (c .before .before .put-head .ensures)
+unfolding put
+returns c = head-before (c .before .before .before .before .before .before .before .before .before .before .args .out .now) (c .before .before .before .before .before .before .put .last .0) (c .before .before .put-head .last .0) (c .before .before .before .before .before .before .before .before .before .before .args .o) (c .before .before .before .before .before .before .before .before .before .before .args .k) (length (c .before .before .before .before .before .before .before .before .before .before .args .v .now)) (c .before .before .before .before .before .before .before .before .before .before .args .v .now) (c .before .before .before .before .before .before .before .before .before .before .pre .0) (c .before .before .before .before .before .before .put .ensures) refl (c .before .before .put-head .ensures)
 
 pub put-record-spec : {M : Type 1} → statement M
-put-record-spec =
-    tie.close (tie.spec add-copy-in copy-in-requires put-head-requires same-length returns)
+put-record-spec = tie.close (tie.spec add-put put-requires put-head-requires same-length returns)

@@ -1,0 +1,3 @@
+-- Laws of preparing.
+pub mod Giving
+pub mod Deciding
