@@ -1,0 +1,4 @@
+-- Laws of running.
+pub mod Sounding
+pub mod Giving
+pub mod Room
