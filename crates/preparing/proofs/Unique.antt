@@ -48,8 +48,9 @@ module _ (text list out work : List ℕ) (hl : Bytes list) where
   pub unique : (r s : Ended) (o o′ w w′ : List ℕ) → outcomeOf r o w ≡ prepareOf cellOf text list out work → outcomeOf s o′ w′ ≡ prepareOf cellOf text list out work
       → (r ≡ s) × (o ≡ o′) × (w ≡ w′)
   unfolding outcomeOf x
-  unique r s o o′ w w′ e f =
-      (same-answer r s (ap (λ (y : Outcome). y .number) e) (ap (λ (y : Outcome). y .count) e) (ap (λ (y : Outcome). y .place) e)
-      (ap (λ (y : Outcome). y .number) f) (ap (λ (y : Outcome). y .count) f) (ap (λ (y : Outcome). y .place) f),
-      ap (λ (y : Outcome). y .out) (e ∙ sym f),
-      ap (λ (y : Outcome). y .work) (e ∙ sym f))
+  unique r s o o′ w w′ e f = (
+    same-answer r s (ap (λ (y : Outcome). y .number) e) (ap (λ (y : Outcome). y .count) e) (ap (λ (y : Outcome). y .place) e)
+        (ap (λ (y : Outcome). y .number) f) (ap (λ (y : Outcome). y .count) f) (ap (λ (y : Outcome). y .place) f),
+    ap (λ (y : Outcome). y .out) (e ∙ sym f),
+    ap (λ (y : Outcome). y .work) (e ∙ sym f),
+  )
