@@ -1,7 +1,7 @@
-use Rattle.text_reader.proofs.Put as puts
+use Rattle.record_out.proofs.Put as puts
 use borrow.Author.Needs.{needs}
-use Rattle.text_reader.proofs.put_leaf.Statement.{statement}
-use Rattle.text_reader.proofs.put_leaf.Tie as tie
+use Rattle.record_out.proofs.put_leaf.Statement.{statement}
+use Rattle.record_out.proofs.put_leaf.Tie as tie
 
 put-head-requires : tie.Need-put-head-requires
 put-head-requires c κs = search needs

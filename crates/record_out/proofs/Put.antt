@@ -11,7 +11,7 @@ use Rattle.common.specs.Places.{tab}
 use Rattle.common.proofs.Places.{length-tab}
 use Rattle.common.proofs.Runs.{Run, run-whole}
 use Rattle.records.specs.Record.{recordOf}
-use Rattle.text_reader.specs.Reader.{put}
+use Rattle.record_out.specs.Put.{put}
 
 pub length-put : (l : List ℕ) (o : ℕ) (v : List ℕ) → o + length v ≤ length l → length (put l o v) ≡ length l
 unfolding put

@@ -1,10 +1,10 @@
-use Rattle.text_reader.proofs.Put as puts
+use Rattle.record_out.proofs.Put as puts
 use Prim.Native.Nat.{_/_, _%_}
 use lib.ListN.{length-set}
 use native.Mathlib.Omega.{arith}
 use borrow.Author.Needs.{needs}
-use Rattle.text_reader.proofs.put_head.Statement.{statement}
-use Rattle.text_reader.proofs.put_head.Tie as tie
+use Rattle.record_out.proofs.put_head.Statement.{statement}
+use Rattle.record_out.proofs.put_head.Tie as tie
 
 cast-out : tie.Need-cast-out
 cast-out c = search needs
