@@ -45,15 +45,15 @@ numbers! {
     Key = 2, "KEY", "the key's length is not the suite's";
     Iv = 3, "IV", "the IV is not one block long";
     Empty = 4, "EMPTY", "the text is empty";
-    Partial = 5, "PARTIAL", "not one block (blk, unblk), or not whole blocks (cbc, uncbc, uncbp)";
+    Partial = 5, "PARTIAL", "not one block (blk, unblk) or whole blocks (cbc, uncbc, uncbp)";
     Long = 6, "LONG", "a value, text or result is over 1,024 bytes";
     Tag = 7, "TAG", "the tag is shorter than 8 bytes or longer than a block";
     Fill = 8, "FILL", "no text seals to these bytes under this key and IV";
     Room = 9, "ROOM", "the output is shorter than the answer";
-    Unequal = 10, "UNEQUAL", "xor of two lengths";
-    Choice = 11, "CHOICE", "the first argument of when is neither 00 nor 01";
+    Unequal = 10, "UNEQUAL", "xor: the lengths differ";
+    Choice = 11, "CHOICE", "when: the first argument is neither 00 nor 01";
     Short = 12, "SHORT", "head: the count is not one byte, or more than there is";
-    Wrap = 13, "WRAP", "two counters of one CTR cell are equal";
+    Wrap = 13, "WRAP", "ctr: two counters of one cell are equal";
     Work = 14, "WORK", "the work room is under 65,536 bytes";
     Syntax = 20, "SYNTAX", "the text is no recipe";
     Text = 21, "TEXT", "the text is over 4,096 bytes";
@@ -61,7 +61,7 @@ numbers! {
     Many = 23, "MANY", "more than 128 nodes";
     Absent = 25, "ABSENT", "a name has no value in the list";
     Image = 26, "IMAGE", "the folded image is over 16,384 bytes";
-    List = 27, "LIST", "the list is bad (preparing takes # names only, running $ and @ names only)";
+    List = 27, "LIST", "the list is bad (prepare takes # names, run $ and @ names)";
     Form = 28, "FORM", "the bytes are no image";
 }
 
