@@ -1,6 +1,6 @@
 //! The twelve cipher entries: one cell, one key, one answer.
 
-use crate::numbers::{Answer, Refused};
+use crate::numbers::{Answer, Refused, UNWRITTEN};
 use crate::raw;
 
 /// The longest value, text or result in bytes.
@@ -56,7 +56,7 @@ type Three = unsafe extern "C" fn(
 ) -> u32;
 
 fn two(entry: Two, suite: u64, a: &[u8], b: &[u8], out: &mut [u8]) -> Answer {
-    let mut length = 0;
+    let mut length = UNWRITTEN;
     // SAFETY: each pointer goes with its slice's length, `out` is borrowed alone and `length` is a local.
     let number = unsafe {
         entry(
@@ -78,7 +78,7 @@ fn two(entry: Two, suite: u64, a: &[u8], b: &[u8], out: &mut [u8]) -> Answer {
 }
 
 fn three(entry: Three, suite: u64, a: &[u8], b: &[u8], c: &[u8], out: &mut [u8]) -> Answer {
-    let mut length = 0;
+    let mut length = UNWRITTEN;
     // SAFETY: each pointer goes with its slice's length, `out` is borrowed alone and `length` is a local.
     let number = unsafe {
         entry(

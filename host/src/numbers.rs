@@ -103,6 +103,9 @@ impl fmt::Display for Refused {
 
 impl std::error::Error for Refused {}
 
+/// What stands in a length or place before the call: every entry writes its own, and one that did not would show.
+pub(crate) const UNWRITTEN: usize = usize::MAX;
+
 /// What an entry answered, number by number: the ground on which `Result` stands.
 #[derive(Clone, Copy, Debug, PartialEq, Eq)]
 pub struct Answer {

@@ -1,7 +1,7 @@
 //! Recipes: prepared once into an image, run once a row.
 
 use crate::list::List;
-use crate::numbers::{Answer, Refused};
+use crate::numbers::{Answer, Refused, UNWRITTEN};
 use crate::raw;
 
 /// The largest image in bytes.
@@ -64,7 +64,7 @@ impl Image {
 
 /// `katsu_prepare` on any bytes, with every number as it came.
 pub fn prepare_answer(text: &[u8], list: &[u8], out: &mut [u8], work: &mut [u8]) -> Answer {
-    let (mut length, mut place) = (0, 0);
+    let (mut length, mut place) = (UNWRITTEN, UNWRITTEN);
     // SAFETY: each pointer goes with its slice's length; `out` and `work` are borrowed alone, the rest are locals.
     let number = unsafe {
         raw::katsu_prepare(
@@ -89,7 +89,7 @@ pub fn prepare_answer(text: &[u8], list: &[u8], out: &mut [u8], work: &mut [u8])
 
 /// `katsu_run` on any bytes, with every number as it came.
 pub fn run_answer(image: &[u8], list: &[u8], out: &mut [u8], work: &mut [u8]) -> Answer {
-    let mut length = 0;
+    let mut length = UNWRITTEN;
     // SAFETY: each pointer goes with its slice's length; `out` and `work` are borrowed alone, `length` is a local.
     let number = unsafe {
         raw::katsu_run(

@@ -95,11 +95,18 @@ fn the_header_has_the_same_numbers() {
     let mut cases = Cases::new("numbers of the header");
     let header = std::fs::read_to_string(top().join("include/katsunebyo.h")).expect("the header");
     for number in katsunebyo::Number::ALL {
-        let line = format!("KATSU_{} = {}", number.name(), number.to_u32());
-        let stands = header
-            .lines()
-            .any(|l| l.trim_start().starts_with(&line) && !l.contains(&format!("{line}0")));
-        assert!(stands, "{line}");
+        let line = [
+            &format!("KATSU_{}", number.name()),
+            "=",
+            &number.to_u32().to_string(),
+        ];
+        let stands = header.lines().any(|l| {
+            l.split([' ', ','])
+                .filter(|w| !w.is_empty())
+                .take(3)
+                .eq(line)
+        });
+        assert!(stands, "{line:?}");
         cases.one();
     }
     for (name, bound) in [

@@ -102,6 +102,7 @@ fn mixtures_of_refusals() {
             .collect();
         desk.cipher(call, number, &arguments).ok();
     }
+    desk.cases.saw(&[0, 1, 2, 3, 4, 5, 6, 7, 8, 9]);
     desk.done();
 }
 

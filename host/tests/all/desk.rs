@@ -3,6 +3,7 @@
 use crate::reference::{self, Judged, WORK};
 use katsunebyo::cipher::Call;
 use katsunebyo::{hex, Answer};
+use std::collections::BTreeSet;
 use std::io::Write;
 use std::time::Instant;
 
@@ -18,6 +19,7 @@ pub struct Cases {
     what: &'static str,
     count: u64,
     start: Instant,
+    numbers: BTreeSet<u32>,
 }
 
 impl Cases {
@@ -26,6 +28,7 @@ impl Cases {
             what,
             count: 0,
             start: Instant::now(),
+            numbers: BTreeSet::new(),
         }
     }
 
@@ -33,14 +36,29 @@ impl Cases {
         self.count += 1;
     }
 
+    /// One with the number that it answered.
+    fn answered(&mut self, number: u32) {
+        self.count += 1;
+        self.numbers.insert(number);
+    }
+
+    /// Whether each of these numbers was answered, so that a row of cases is not all of one sort.
+    pub fn saw(&self, numbers: &[u32]) {
+        for number in numbers {
+            assert!(self.numbers.contains(number), "{}: no {number}", self.what);
+        }
+    }
+
     /// Written to standard output itself: the test runner keeps back what `println!` prints.
     pub fn say(self) {
         assert!(self.count > 0, "{}: no case", self.what);
         let mut line = format!("    {:>8} cases  {}", self.count, self.what);
-        line.push_str(&format!(
-            "  ({:.1} s)\n",
-            self.start.elapsed().as_secs_f64()
-        ));
+        line.push_str(&format!("  ({:.1} s)", self.start.elapsed().as_secs_f64()));
+        if !self.numbers.is_empty() {
+            let numbers: Vec<String> = self.numbers.iter().map(u32::to_string).collect();
+            line.push_str(&format!("  answers {}", numbers.join(" ")));
+        }
+        line.push('\n');
         let _ = std::io::stdout().write_all(line.as_bytes());
     }
 }
@@ -212,7 +230,7 @@ impl Desk {
 
     /// Number, length, place, the answer's bytes and every other byte of the output.
     fn compare(&mut self, answer: Answer, judged: &Judged, room: usize, what: &dyn Fn() -> String) {
-        self.cases.one();
+        self.cases.answered(answer.number);
         let expected = reference::delivered(judged, room);
         assert_eq!(
             (answer.number, answer.length, answer.place),

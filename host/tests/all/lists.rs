@@ -49,6 +49,10 @@ fn bad_lists() {
     for cut in 0..=good.len() {
         desk.run(&run, &good[..cut]).ok();
     }
+    for long in [vec![0; 1 << 20], good.repeat(3000), vec![0xFF; 1 << 20]] {
+        assert_eq!(desk.run(&run, &long), Err((27, 0)));
+        assert_eq!(desk.prepare(b"''", &long), Err((27, 0)));
+    }
     let bound = list_of(&Values(vec![('#', 2, vec![1; 5]), ('#', 0, vec![3; 40])]));
     for cut in 0..=bound.len() {
         desk.prepare(b"#0", &bound[..cut]).ok();

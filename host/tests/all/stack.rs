@@ -22,17 +22,21 @@ fn extremes() -> Vec<(String, Vec<u8>, Vec<u8>)> {
         ])
     };
     let bound = list_of(&key_and_iv('#'));
-    let run = list_of(&key_and_iv('@'));
+    let mut run = key_and_iv('@');
+    run.0.push(('$', 0, vec![]));
+    let run = list_of(&run);
     let mut texts = Vec::new();
     for sign in ['#', '@'] {
         for call in Call::ALL {
             texts.push(deep_call(call, sign));
         }
-        texts.push(nested("cat(", &format!("{sign}2"), ",'')"));
-        texts.push(nested("cat('',", &format!("{sign}2"), ")"));
-        texts.push(nested("when('01',", &format!("{sign}2"), ",$0)"));
-        texts.push(nested("when(eq($0,''),$0,", &format!("{sign}2"), ")"));
+        texts.push(nested("cat(", sign_two(sign), ",'')"));
+        texts.push(nested("cat('',", sign_two(sign), ")"));
+        texts.push(nested("when('01',", sign_two(sign), ",$0)"));
+        texts.push(nested("when(eq($0,''),$0,", sign_two(sign), ")"));
         texts.push(nested("xor('',", "''", ")"));
+        texts.push(nested("eq(", sign_two(sign), ",'')"));
+        texts.push("when(eq($0,".repeat(7) + sign_two(sign) + &"),'','')".repeat(7));
         texts.push(wide_ciphers(sign));
     }
     texts.push(crate::texts::wide(128));
@@ -45,6 +49,13 @@ fn extremes() -> Vec<(String, Vec<u8>, Vec<u8>)> {
         .into_iter()
         .map(|text| (text, bound.clone(), run.clone()))
         .collect()
+}
+
+fn sign_two(sign: char) -> &'static str {
+    match sign {
+        '#' => "#2",
+        _ => "@2",
+    }
 }
 
 /// Sixteen levels.
@@ -68,7 +79,7 @@ fn deep_call(call: Call, sign: char) -> String {
     nested(&format!("{}.5({others}", call.name()), &leaf, ")")
 }
 
-/// Thirty-one cipher calls of four nodes, over `xor`.
+/// Twenty-five cipher calls of four nodes over `xor`: 124 nodes.
 fn wide_ciphers(sign: char) -> String {
     let one = format!("ctr.5({sign}0,{sign}1,{sign}2)");
     let mut texts = vec![one; 25];

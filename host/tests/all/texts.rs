@@ -242,6 +242,14 @@ fn both_sides_of_the_bounds() {
             _ => assert_eq!(judged.expect_err("too many").0, 23),
         }
     }
+    // The 129th expression is due: 23 whatever stands there, the text's end too.
+    let text = wide(140);
+    let (_, due) = desk.prepare(text.as_bytes(), &[]).expect_err("too many");
+    for rest in ["", "?", "'", "cat("] {
+        let cut = format!("{}{rest}", &text[..due]);
+        assert_eq!(desk.prepare(cut.as_bytes(), &[]), Err((23, due)));
+    }
+    assert_eq!(desk.prepare(&vec![b'a'; 1 << 20], &[]), Err((21, 0)));
     for length in 4000..=4100 {
         desk.prepare(filler(length).as_bytes(), &[]).ok();
         desk.prepare_once(&vec![b'\''; length], &[]).ok();
