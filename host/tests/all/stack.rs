@@ -23,7 +23,7 @@ fn extremes() -> Vec<(String, Vec<u8>, Vec<u8>)> {
     };
     let bound = list_of(&key_and_iv('#'));
     let mut run = key_and_iv('@');
-    run.0.push(('$', 0, vec![]));
+    run.0.extend((0..8).map(|digit| ('$', digit, vec![])));
     let run = list_of(&run);
     let mut texts = Vec::new();
     for sign in ['#', '@'] {
@@ -39,7 +39,7 @@ fn extremes() -> Vec<(String, Vec<u8>, Vec<u8>)> {
         texts.push("when(eq($0,".repeat(7) + sign_two(sign) + &"),'','')".repeat(7));
         texts.push(wide_ciphers(sign));
     }
-    texts.push(crate::texts::wide(128));
+    texts.extend([127, 128].map(crate::texts::wide));
     texts.push(format!("'{}'", "00".repeat(1024)));
     texts.push(nested("cat('','", "4", "')"));
     texts.push("cat(".repeat(1024));
