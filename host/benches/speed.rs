@@ -372,7 +372,7 @@ fn main() {
             println!("In brackets: times the speed of Crypto++ at the same work in the same run.")
         }
         false => println!(
-            "Crypto++ (libcrypto++-dev) was not there when this was built: figures stand alone."
+            "Crypto++ (libcrypto++-dev) was not there when this was built, so the figures stand alone. After installing it: touch build.rs"
         ),
     }
     println!("\n## Cipher calls, MB/s by the size of the cell, key set for each cell\n\n{ciphers}");
