@@ -6,17 +6,8 @@ use crate::reference::block::{suite as row, Cipher};
 use crate::reference::modes;
 use katsunebyo::cipher::{Call, Suite, SUITES};
 
-/// The calls with an IV.
-const MODES: [Call; 8] = [
-    Call::Ctr,
-    Call::Ofb,
-    Call::Cfb,
-    Call::Uncfb,
-    Call::Cbc,
-    Call::Uncbc,
-    Call::Cbp,
-    Call::Uncbp,
-];
+/// The calls that seal a text under an IV.
+const SEALING: [Call; 5] = [Call::Ctr, Call::Ofb, Call::Cfb, Call::Cbc, Call::Cbp];
 
 /// Every length to past the second block, around every block end, and around the bound.
 fn lengths(block: usize) -> Vec<usize> {
@@ -224,14 +215,8 @@ fn round_trips() {
     let mut random = Random::new(37);
     let (mut sealed, mut opened) = ([0; 1024], [0; 1024]);
     for suite in SUITES {
-        for call in MODES {
+        for call in SEALING {
             let undoing = crate::vectors::undoing(call).expect("a mode");
-            if !matches!(
-                call,
-                Call::Ctr | Call::Ofb | Call::Cfb | Call::Cbc | Call::Cbp
-            ) {
-                continue;
-            }
             for length in 1..=1024 {
                 let given = arguments(&mut random, call, suite, length);
                 let lent: Vec<&[u8]> = given.iter().map(Vec::as_slice).collect();
