@@ -168,10 +168,11 @@ impl Desk {
         judged
     }
 
-    pub fn prepare_with_work(&mut self, text: &[u8], list: &[u8], work: usize) -> Judged {
+    /// `katsu_prepare` in a room and a work room of these sizes: its number.
+    pub fn prepare_at(&mut self, text: &[u8], list: &[u8], room: usize, work: usize) -> u32 {
         let judged = reference::prepare_entry(text, list, work);
-        self.prepare_in(text, list, &judged, 100, work);
-        judged
+        self.prepare_in(text, list, &judged, room, work);
+        reference::delivered(&judged, room).number
     }
 
     fn prepare_in(&mut self, text: &[u8], list: &[u8], judged: &Judged, room: usize, work: usize) {
@@ -207,10 +208,11 @@ impl Desk {
         judged
     }
 
-    pub fn run_with_work(&mut self, image: &[u8], list: &[u8], work: usize) -> Judged {
+    /// `katsu_run` in a room and a work room of these sizes: its number.
+    pub fn run_at(&mut self, image: &[u8], list: &[u8], room: usize, work: usize) -> u32 {
         let judged = reference::run_entry(image, list, work);
-        self.run_in(image, list, &judged, 100, work);
-        judged
+        self.run_in(image, list, &judged, room, work);
+        reference::delivered(&judged, room).number
     }
 
     fn run_in(&mut self, image: &[u8], list: &[u8], judged: &Judged, room: usize, work: usize) {

@@ -5,6 +5,7 @@ use crate::random::{recipe, Random};
 use crate::reference::records::{image, list_of, LARGEST};
 use crate::reference::texts::read;
 use crate::reference::tree::{Tree, Values};
+use crate::reference::WORK;
 
 /// Prepared by the library and run by the library, a recipe answers what its own text means.
 #[test]
@@ -174,4 +175,74 @@ fn values_at_the_bounds() {
         desk.run(&when, &run).ok();
     }
     desk.done();
+}
+
+/// Every choice of what is wrong: the first number in the stated order.
+#[test]
+fn mixtures_of_refusals() {
+    let mut desk = Desk::new("recipes: every mixture of refusals");
+    for wrong in choices(&[14, 21, 20, 27, 25, 26, 9]) {
+        let is = |number: u32| wrong.contains(&number);
+        let mut text = joined(if is(26) { &["#0"; 17] } else { &["#0"; 2] });
+        if is(25) {
+            text = format!("cat({text},#3)");
+        }
+        if is(20) {
+            text.push('?');
+        }
+        if is(21) {
+            text.push_str(&"'".repeat(4097));
+        }
+        let mut list = list_of(&Values(vec![('#', 0, vec![7; 1024])]));
+        if is(27) {
+            list.push(0);
+        }
+        let number = desk.prepare_at(text.as_bytes(), &list, room(is(9)), work(is(14)));
+        assert_eq!(number, wrong.first().copied().unwrap_or(0), "{wrong:?}");
+    }
+    let good = desk.prepare(b"cat($0,$1)", &[]).expect("good");
+    for wrong in choices(&[14, 28, 27, 25, 9]) {
+        let is = |number: u32| wrong.contains(&number);
+        let mut image = good.clone();
+        if is(28) {
+            image.push(0);
+        }
+        let mut values = vec![('$', 0, vec![7])];
+        if !is(25) {
+            values.push(('$', 1, vec![8]));
+        }
+        let mut list = list_of(&Values(values));
+        if is(27) {
+            list.push(0);
+        }
+        let number = desk.run_at(&image, &list, room(is(9)), work(is(14)));
+        assert_eq!(number, wrong.first().copied().unwrap_or(0), "{wrong:?}");
+    }
+    desk.cases.saw(&[0, 9, 14, 20, 21, 25, 26, 27, 28]);
+    desk.done();
+}
+
+/// Every part of the numbers, each in the same order.
+fn choices(numbers: &[u32]) -> Vec<Vec<u32>> {
+    match numbers {
+        [] => vec![vec![]],
+        [first, rest @ ..] => choices(rest)
+            .into_iter()
+            .flat_map(|part| [part.clone(), [&[*first], &part[..]].concat()])
+            .collect(),
+    }
+}
+
+fn room(too_short: bool) -> usize {
+    match too_short {
+        true => 1,
+        false => LARGEST,
+    }
+}
+
+fn work(too_short: bool) -> usize {
+    match too_short {
+        true => WORK - 1,
+        false => WORK,
+    }
 }
