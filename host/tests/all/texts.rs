@@ -249,6 +249,15 @@ fn both_sides_of_the_bounds() {
         let cut = format!("{}{rest}", &text[..due]);
         assert_eq!(desk.prepare(cut.as_bytes(), &[]), Err((23, due)));
     }
+    // With 112 nodes on the left both are due at once, the seventeenth level and the 129th node: 22.
+    for left in 105..=120 {
+        let text = format!("cat({},{}", wide(left), "cat(".repeat(16));
+        let judged = desk.prepare(text.as_bytes(), &[]);
+        assert_eq!(
+            judged.expect_err("too much").0,
+            if left <= 112 { 22 } else { 23 }
+        );
+    }
     assert_eq!(desk.prepare(&vec![b'a'; 1 << 20], &[]), Err((21, 0)));
     for length in 4000..=4100 {
         desk.prepare(filler(length).as_bytes(), &[]).ok();
