@@ -1,0 +1,2 @@
+-- What a host sees.
+pub mod Seen

@@ -1,0 +1,4 @@
+-- Laws of the entries.
+pub mod Told
+pub mod Unique
+pub mod Wrong

@@ -1,0 +1,45 @@
+-- What an entry gives back is determined: number, length and every output byte. One statement serves the twelve, whose contracts are equations with what the cell delivers.
+use mathlib.Core.Path.{_≡_, ap, sym, _∙_}
+use mathlib.Core.List.{List}
+use Prim.Native.Nat.{ℕ}
+use Rattle.common.specs.Answer.{Value, Delivered, deliver}
+use Rattle.common.proofs.Unique.{by-equation}
+use Rattle.answers.specs.Told.{numberOf, countOf, toldOf}
+use Rattle.answers.specs.declared.Told.{Told}
+use Rattle.modes.specs.Cell.{Call, cell}
+use Rattle.entries.specs.Seen.{seen}
+
+module _ (f : Call) (suite : ℕ) (key side text : Value) (out : List ℕ) (r r′ l l′ : ℕ) (o o′ : List ℕ)
+    (e : seen r l o ≡ deliver (cell f suite key side text) out) (e′ : seen r′ l′ o′ ≡ deliver (cell f suite key side text) out) where
+  same : seen r l o ≡ seen r′ l′ o′
+  same = by-equation (deliver (cell f suite key side text) out) (seen r l o) (seen r′ l′ o′) e e′
+
+  pub one-number : r ≡ r′
+  unfolding seen
+  one-number = ap (λ d. d .number) same
+
+  pub one-length : l ≡ l′
+  unfolding seen
+  one-length = ap (λ d. d .count) same
+
+  pub one-output : o ≡ o′
+  unfolding seen
+  one-output = ap (λ d. d .out) same
+
+-- The same of every function that tells: number, length and every output byte are determined by what is delivered (`handing::hand`, `sealings::seal_call`, `openings::open_call`,
+-- `calls::call`, `entries::sealed`, `entries::opened`, and the plain calls).
+module _ (d : Delivered) (t t′ : Told) (o o′ : List ℕ) (e : toldOf t o ≡ d) (e′ : toldOf t′ o′ ≡ d) where
+  told-same : toldOf t o ≡ toldOf t′ o′
+  told-same = by-equation d (toldOf t o) (toldOf t′ o′) e e′
+
+  pub told-number : numberOf t ≡ numberOf t′
+  unfolding toldOf
+  told-number = ap (λ x. x .number) told-same
+
+  pub told-length : countOf t ≡ countOf t′
+  unfolding toldOf
+  told-length = ap (λ x. x .count) told-same
+
+  pub told-output : o ≡ o′
+  unfolding toldOf
+  told-output = ap (λ x. x .out) told-same
