@@ -1,13 +1,8 @@
-use native.Mathlib.Omega.{arith}
-use Prim.Native.Nat.{_≤_, _-_, _+_}
-use mathlib.Core.Path.{_≡_, sym}
+use Prim.Native.Nat.{_≤_, _-_}
 use lib.ListN.{length}
-use lib.Seq.{length-take-le}
 use borrow.Author.Needs.{needs}
 use Rattle.runs.proofs.all_are.Statement.{statement}
 use Rattle.runs.proofs.all_are.Tie as tie
-use Rattle.runs.proofs.all_are.Reads as reads
-use Rattle.runs.proofs.all_are.Lts as lts
 
 abbrev Inv-loop : tie.InvT-loop
 Inv-loop s from to b i₀ i = to ≤ length s

@@ -1,17 +1,10 @@
 use native.Mathlib.Omega.{arith}
-use Prim.Native.Nat.{_≤_, _-_, _+_}
-use mathlib.Core.Path.{_≡_, sym}
+use Prim.Native.Nat.{_≤_, _-_}
+use mathlib.Core.Path.{_≡_}
 use lib.ListN.{length}
-use lib.Seq.{length-take-le}
 use borrow.Author.Needs.{needs}
 use Rattle.runs.proofs.expand.Statement.{statement}
 use Rattle.runs.proofs.expand.Tie as tie
-use Rattle.runs.proofs.expand.Reads as reads
-use Rattle.runs.proofs.expand.Lts as lts
-use Rattle.runs.proofs.byte_at.Reads as byte-at-reads
-use Rattle.runs.proofs.counted.Reads as counted-reads
-use Rattle.runs.proofs.put.Reads as put-reads
-use Rattle.runs.proofs.wide.Reads as wide-reads
 
 abbrev Inv-loop : tie.InvT-loop
 Inv-loop s out₀ i₀ o₀ out i o = (o ≤ length out) × (length out ≡ length out₀)

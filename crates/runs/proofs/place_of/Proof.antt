@@ -1,13 +1,8 @@
-use native.Mathlib.Omega.{arith}
-use Prim.Native.Nat.{_≤_, _-_, _+_}
-use mathlib.Core.Path.{_≡_, sym}
+use Prim.Native.Nat.{_≤_, _-_}
 use lib.ListN.{length}
-use lib.Seq.{length-take-le}
 use borrow.Author.Needs.{needs}
 use Rattle.runs.proofs.place_of.Statement.{statement}
 use Rattle.runs.proofs.place_of.Tie as tie
-use Rattle.runs.proofs.place_of.Reads as reads
-use Rattle.runs.proofs.place_of.Lts as lts
 
 abbrev Inv-loop : tie.InvT-loop
 Inv-loop s p b i₀ i = (p ≤ i) × (i ≤ length s)

@@ -1,14 +1,9 @@
-use native.Mathlib.Omega.{arith}
-use Prim.Native.Nat.{_≤_, _-_, _+_}
-use mathlib.Core.Path.{_≡_, sym}
+use Prim.Native.Nat.{_≤_, _-_}
+use mathlib.Core.Path.{_≡_}
 use lib.ListN.{length}
-use lib.Seq.{length-take-le}
 use borrow.Author.Needs.{needs}
 use Rattle.runs.proofs.put.Statement.{statement}
 use Rattle.runs.proofs.put.Tie as tie
-use Rattle.runs.proofs.put.Reads as reads
-use Rattle.runs.proofs.put.Lts as lts
-use Rattle.runs.proofs.end_of.Reads as end-of-reads
 
 abbrev Inv-loop : tie.InvT-loop
 Inv-loop out₀ o b n e at₀ out at = (at ≤ e) × (e ≤ length out) × (length out ≡ length out₀)

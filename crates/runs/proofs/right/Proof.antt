@@ -1,17 +1,9 @@
-use native.Mathlib.Omega.{arith}
-use Prim.Native.Nat.{_≤_, _-_, _+_}
-use mathlib.Core.Path.{_≡_, sym}
-use lib.ListN.{length}
+use Prim.Native.Nat.{_-_}
+use mathlib.Core.Path.{sym}
 use lib.Seq.{length-take-le}
 use borrow.Author.Needs.{needs}
 use Rattle.runs.proofs.right.Statement.{statement}
 use Rattle.runs.proofs.right.Tie as tie
-use Rattle.runs.proofs.right.Reads as reads
-use Rattle.runs.proofs.right.Lts as lts
-use Rattle.runs.proofs.in_rooms.Reads as in-rooms-reads
-use Rattle.runs.proofs.number_in.Reads as number-in-reads
-use Rattle.runs.proofs.past.Reads as past-reads
-use Rattle.runs.proofs.place_of.Reads as place-of-reads
 
 -- src/main.rt:292:9
 place-of-requires : tie.Need-place-of-requires
