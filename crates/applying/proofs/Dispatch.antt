@@ -1,19 +1,15 @@
 -- Each kind has its own call; the answer goes into the slot.
-use mathlib.Core.Path.{_≡_, refl, ap, ap₂, sym, _∙_, subst}
+use mathlib.Core.Path.{_≡_, ap, ap₂, sym, _∙_, subst}
 use mathlib.Core.Bool.{Bool, true, false}
-use mathlib.Core.List.{List, [], _∷_, _++_}
-use Prim.Native.Nat.{ℕ, _+_, _-_, _*_, _/_, _%_, _≤_, _<_}
-use native.Mathlib.Omega.{arith}
-use lib.Dec.{eqb}
+use mathlib.Core.List.{List, [], _∷_}
+use Prim.Native.Nat.{ℕ, _+_, _-_, _%_, _≤_, _<_}
 use lib.ListN.{length, take, drop}
 use borrow.Author.Tests.{eq-eqb, ne-eqb}
 use borrow.Rule.Slice.PartMut.{midOf, putMid}
 use Rattle.common.specs.Choice.{pick}
-use Rattle.common.specs.Answer.{Value, Answer, Delivered, deliver}
+use Rattle.common.specs.Answer.{Delivered, deliver}
 use Rattle.tree.specs.Bounds.{Bytes, argumentsOf, whenKind}
 use Rattle.meaning.specs.Real.{cat, xor, eq, head, ciphered, realTwo, real}
-use Rattle.meaning.specs.Values.{Valued}
-use Rattle.meaning.specs.Numbers.{Numbered}
 use Rattle.meaning.proofs.Plain.{real-valued}
 use Rattle.meaning.proofs.Refusals.{real-numbered}
 use Rattle.modes.specs.Cell.{callOf, cell, cellOf}

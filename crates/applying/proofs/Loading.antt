@@ -1,12 +1,11 @@
 -- Arguments loaded from their slots.
-use mathlib.Core.Path.{_≡_, refl, ap, sym, _∙_, subst}
-use mathlib.Core.List.{List, [], _∷_, _++_}
-use Prim.Native.Nat.{ℕ, suc, _+_, _-_, _≤_, _<_}
+use mathlib.Core.Path.{_≡_, sym, subst}
+use mathlib.Core.List.{List}
+use Prim.Native.Nat.{ℕ, _+_, _-_, _≤_, _<_}
 use native.Mathlib.Omega.{arith}
 use native.Mathlib.Numerals.{add-one}
-use lib.ListN.{length, getD, set, take, drop, length-take, length-drop, length-set}
+use lib.ListN.{length, getD, set, take, drop, length-take, length-drop}
 use lib.Seq.{take-suc, take-suc-set, getD-drop, length-take-le}
-use Rattle.common.specs.Answer.{Value}
 use Rattle.tree.specs.Bounds.{Bytes}
 use Rattle.tree.specs.Values.{IsValue}
 use Rattle.tree.proofs.Bytes.{bytes-take, bytes-drop}

@@ -1,14 +1,13 @@
 -- A cipher call's kind, its number f, and what both say of its arguments and tables (document 01, section 6).
-use mathlib.Core.Path.{_≡_, refl, ap, sym, _∙_}
+use mathlib.Core.Path.{_≡_, refl, ap, sym}
 use mathlib.Core.Bool.{Bool, true, false}
 use mathlib.Core.List.{List, [], _∷_}
-use Prim.Native.Nat.{ℕ, suc, _+_, _-_, _*_, _/_, _%_, _≤_, _<_}
+use Prim.Native.Nat.{ℕ, _-_, _/_, _%_, _≤_, _<_}
 use native.Mathlib.Omega.{arith}
-use lib.Dec.{eqb, leb, ltb}
-use lib.ListN.{getD}
-use borrow.Author.Tests.{leb-true, le-leb, lt-leb, eq-eqb, ne-eqb}
+use lib.Dec.{eqb, leb}
+use borrow.Author.Tests.{leb-true, lt-leb, eq-eqb, ne-eqb}
 use Rattle.common.specs.Choice.{pick}
-use Rattle.common.specs.Answer.{Value, Answer}
+use Rattle.common.specs.Answer.{Value}
 use Rattle.tree.specs.Bounds.{ofRow, argumentsIn, argumentsOf, whenKind}
 use Rattle.tree.specs.Calls.{calls, plain, cipher}
 use Rattle.tree.proofs.Table.{call-kind}

@@ -4,3 +4,4 @@ pub mod Shaped
 pub mod Readied
 pub mod Meant
 pub mod Ways
+pub mod Unique

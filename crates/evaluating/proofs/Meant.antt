@@ -2,29 +2,29 @@
 use mathlib.Core.Path.{_≡_, refl, ap, ap₂, sym, _∙_, subst}
 use mathlib.Core.Bool.{Bool, true, false}
 use mathlib.Core.List.{List, [], _∷_, _++_}
-use Prim.Native.Nat.{ℕ, suc, _+_, _-_, _*_, _≤_, _<_}
+use Prim.Native.Nat.{ℕ, _+_, _-_, _≤_, _<_}
 use native.Mathlib.Omega.{arith}
-use lib.Dec.{eqb}
-use lib.ListN.{length, getD, take, drop, length-take, length-drop}
-use lib.Seq.{take-length, drop-cons, length-take-le}
+use lib.ListN.{length, getD, take, drop, length-drop, take-append-drop}
+use lib.Seq.{length-take-le, getD-take, getD-drop}
 use borrow.Author.Tests.{eq-eqb, ne-eqb}
 use borrow.Rule.Slice.PartMut.{midOf, putMid}
 use Rattle.common.specs.Choice.{pick}
 use Rattle.common.specs.Answer.{Value, Answer, Delivered, then, refusal, deliver}
-use Rattle.common.specs.Answer.Answer.{value, refused}
+use Rattle.common.specs.Answer.Answer.{value}
 use Rattle.tree.specs.Tree.{Tree}
 use Rattle.tree.specs.Tree.Tree.{literal, bound, row, run, one, two, three, four, when}
-use Rattle.tree.specs.Bounds.{Bytes, argumentsOf, whenKind, depth, Proper, Small}
-use Rattle.tree.specs.Names.{Given}
-use Rattle.tree.specs.Names.Given.{given, nothing}
-use Rattle.meaning.specs.Mean.{Calls, named, mean, Side, sideOf, chosen}
-use Rattle.meaning.specs.Mean.Side.{first, second, neither}
-use Rattle.meaning.specs.Real.{real, realTwo, ciphered}
+use Rattle.tree.specs.Bounds.{Bytes, depth, Proper, Small}
+use Rattle.meaning.specs.Mean.{Calls, named, mean, sideOf, chosen}
+use Rattle.meaning.specs.Mean.Side.{neither}
+use Rattle.meaning.specs.Real.{real}
+use Rattle.meaning.specs.Values.{Valued}
+use Rattle.meaning.specs.Numbers.{Numbered}
 use Rattle.meaning.proofs.Plain.{real-valued}
 use Rattle.meaning.proofs.Refusals.{mean-numbered, real-numbered}
 use Rattle.meaning.proofs.Within.{mean-valued}
 use Rattle.records.specs.Record.{word}
 use Rattle.records.specs.Encode.{encode}
+use Rattle.records.specs.Decode.{decode}
 use Rattle.records.proofs.There.{decode-encode}
 use Rattle.lists.specs.Entries.{Entry, listOf}
 use Rattle.lists.specs.Entries.Listed.{listed}
@@ -41,11 +41,10 @@ use Rattle.answers.specs.declared.Told.the-variants.{Done, Refused}
 use Rattle.answers.specs.Told.{numberOf, countOf, toldOf}
 use Rattle.slots.specs.Slots.{At, settledOf}
 use Rattle.slots.proofs.Settling.{at-slot}
-use Rattle.slots.proofs.Standing.{Has, has-of, refused-of, at-refused, kept-down, bytes-kept, has-kept, at-earlier}
-use Rattle.evaluating.specs.Stretch.{Stretch, Ready, Means, sideBy}
-use Rattle.evaluating.proofs.Pieces.{kindOf}
-use Rattle.evaluating.proofs.Shaped.{leaf-of, IsTwo, two-of, IsThree, three-of, IsWhen, when-of}
-use Rattle.evaluating.proofs.Readied.{head-kind, TwoParts, two-parts, ThreeParts, three-parts, when-parts}
+use Rattle.slots.proofs.Standing.{Has, has-of, refused-of, at-refused, kept-down, has-kept, at-earlier}
+use Rattle.evaluating.specs.Stretch.{Stretch, Means, sideBy}
+use Rattle.evaluating.proofs.Shaped.{leaf-of}
+use Rattle.evaluating.proofs.Readied.{head-kind}
 
 pick-true : {A : Type 0} (b : Bool) (x y : A) → b ≡ true → pick b x y ≡ x
 unfolding pick
@@ -91,7 +90,7 @@ module _ (w : List ℕ) (o n : ℕ) (h : o + n ≤ length w) where
   pub side-one : n ≡ 1 → sideBy (getD w o 0) ≡ sideOf (take n (drop o w))
   side-one e =
       sym (one-byte (take n (drop o w)) (slot-length ∙ e)
-      ∙ ap sideBy (lib.Seq.getD-take n (drop o w) 0 0 (omega arith) ∙ lib.Seq.getD-drop o w 0 0 ∙ ap (λ i. getD w i 0) (omega arith)))
+      ∙ ap sideBy (getD-take n (drop o w) 0 0 (omega arith) ∙ getD-drop o w 0 0 ∙ ap (λ i. getD w i 0) (omega arith)))
 
   pub side-none : (n ≡ 1 → ⊥) → sideBy 2 ≡ sideOf (take n (drop o w))
   unfolding sideBy pick
@@ -123,16 +122,16 @@ module _ (taken : ℕ → Bool) (list : List ℕ) (es : List Entry) (hl : Bytes 
       → named (placed image list (placeOf image start list)) ≡ mean C (bindingOf es) (runningOf es) t
   leaf-means image start end t S k =
       let i : IsLeaf t = leaf-of t (S .proper) (let q = head-kind image start end t S in omega arith) in
-      let r : take (end - start) (drop start image) ++ drop (end - start) (drop start image) ≡ drop start image = lib.ListN.take-append-drop (end - start) (drop start image) in
+      let r : take (end - start) (drop start image) ++ drop (end - start) (drop start image) ≡ drop start image = take-append-drop (end - start) (drop start image) in
       let e : drop start image ≡ encode t ++ drop (end - start) (drop start image) = sym r ∙ ap (λ x. x ++ drop (end - start) (drop start image)) (S .is) in
       ap named (leaf-given taken true (depth t) image start list es t (length (encode t)) hl el
-      (ap (Rattle.records.specs.Decode.decode true (depth t)) e ∙ decode-encode true t (depth t) (drop (end - start) (drop start image)) (S .proper) (S .small) (λ f. absurd (no-false f)) (omega arith)) i)
+      (ap (decode true (depth t)) e ∙ decode-encode true t (depth t) (drop (end - start) (drop start image)) (S .proper) (S .small) (λ f. absurd (no-false f)) (omega arith)) i)
       ∙ leaf-named t i
 
-  pub means-valued : (t : Tree) → Proper t → Small t → Rattle.meaning.specs.Values.Valued (mean C (bindingOf es) (runningOf es) t)
+  pub means-valued : (t : Tree) → Proper t → Small t → Valued (mean C (bindingOf es) (runningOf es) t)
   means-valued = mean-valued C (bindingOf es) (runningOf es) (real-valued cellOf cell-valued) (binding-valued taken list es hl el) (running-valued taken list es hl el)
 
-  pub means-numbered : (t : Tree) → Rattle.meaning.specs.Numbers.Numbered (mean C (bindingOf es) (runningOf es) t)
+  pub means-numbered : (t : Tree) → Numbered (mean C (bindingOf es) (runningOf es) t)
   means-numbered = mean-numbered C (bindingOf es) (runningOf es) (real-numbered cellOf numbered)
 
 pub leaf-at : (image list : List ℕ) (start end o e : ℕ) (r : Told) (w ys : List ℕ) → Bytes list → word image (start + 2) < 0x0010 → e ≡ o + 1024 → e ≤ length w

@@ -1,10 +1,10 @@
 -- Records that stand in an image, and the records in their payloads.
-use mathlib.Core.Path.{_≡_, refl, ap, sym, _∙_, subst}
+use mathlib.Core.Path.{_≡_, refl, ap, sym, _∙_}
 use mathlib.Core.List.{List, [], _∷_, _++_, append-assoc}
-use Prim.Native.Nat.{ℕ, zero, suc, _+_, _-_, _*_, _≤_, _<_, _/_, _%_}
+use Prim.Native.Nat.{ℕ, suc, _+_, _-_, _*_, _≤_, _/_, _%_}
 use native.Mathlib.Omega.{arith}
-use lib.ListN.{length, getD, take, drop, length-append, length-drop, length-take, take-append-drop}
-use lib.Seq.{take-at, drop-at, drop-drop, take-length, take-all}
+use lib.ListN.{length, take, drop, length-append, length-drop, length-take, take-append-drop}
+use lib.Seq.{take-at, drop-at, drop-drop}
 use Rattle.tree.specs.Tree.{Tree}
 use Rattle.tree.specs.Tree.Tree.{literal, bound, row, run, one, two, three, four, when}
 use Rattle.tree.specs.Bounds.{Proper, Small, whenKind}

@@ -1,7 +1,7 @@
 -- What is ready for a call is ready for its arguments.
-use mathlib.Core.Path.{_≡_, refl, ap, sym, _∙_, subst}
-use mathlib.Core.List.{List, [], _∷_, _++_}
-use Prim.Native.Nat.{ℕ, suc, _+_, _-_, _*_, _≤_, _<_, max}
+use mathlib.Core.Path.{_≡_, ap, sym, _∙_, subst}
+use mathlib.Core.List.{List, _++_}
+use Prim.Native.Nat.{ℕ, suc, _+_, _-_, _*_, _≤_, max}
 use native.Mathlib.Omega.{arith}
 use lib.ListN.{length}
 use Rattle.tree.specs.Tree.{Tree}
@@ -13,7 +13,7 @@ use Rattle.records.specs.Encode.{encode}
 use Rattle.kinds.specs.Tables.{tablesFor, tablesOf}
 use Rattle.lent.specs.Lent.{Lent}
 use Rattle.evaluating.specs.Stretch.{Stretch, Ready}
-use Rattle.evaluating.proofs.Pieces.{kindOf, payloadOf, Rest, Opened, opened, Split, rest-room, rest-split, rest-last}
+use Rattle.evaluating.proofs.Pieces.{kindOf, payloadOf, Rest, opened, rest-room, rest-split, rest-last}
 use Rattle.evaluating.proofs.Shaped.{IsTwo, two-of, IsThree, three-of, IsWhen, when-of}
 
 lent-less : (n m : ℕ) (tab back p u : List ℕ) → n ≤ m → Lent m tab back p u → Lent n tab back p u

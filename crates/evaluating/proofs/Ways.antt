@@ -1,13 +1,10 @@
 -- The ways out of the evaluator's functions.
-use mathlib.Core.Path.{_≡_, refl, ap, sym, _∙_, subst}
-use mathlib.Core.Bool.{Bool}
+use mathlib.Core.Path.{_≡_, sym, _∙_, subst}
 use mathlib.Core.List.{List, [], _∷_}
-use Prim.Native.Nat.{ℕ, _+_, _≤_, _<_}
-use native.Mathlib.Omega.{arith}
+use Prim.Native.Nat.{ℕ, _+_, _≤_}
 use lib.ListN.{length, take, drop}
 use Rattle.common.specs.Answer.{Answer}
 use Rattle.tree.specs.Tree.{Tree}
-use Rattle.tree.specs.Tree.Tree.{two, three, when}
 use Rattle.tree.specs.Bounds.{argumentsOf, whenKind}
 use Rattle.meaning.specs.Mean.{mean, sideOf}
 use Rattle.meaning.specs.Real.{real, realTwo, ciphered}

@@ -1,11 +1,11 @@
 -- Values compared with no early exit.
 use mathlib.Core.Bool.{Bool, true, false}
-use mathlib.Core.Path.{_≡_, refl, sym, ap, _∙_, subst}
-use mathlib.Core.List.{List, [], _∷_}
-use Prim.Native.Nat.{ℕ, zero, suc, _+_, _<_, _≤_}
+use mathlib.Core.Path.{_≡_, refl, sym, ap, _∙_}
+use mathlib.Core.List.{List}
+use Prim.Native.Nat.{ℕ, _+_, _<_}
 use native.Mathlib.Decide.{decLt}
 use native.Mathlib.Omega.{arith}
-use lib.Bits.{bitOr, or-add-and}
+use lib.Bits.{bitOr, or-add-and, and-le-l, and-le-r}
 use lib.ListN.{getD, length}
 use lib.Seq.{ext-getD}
 use Rattle.common.specs.Choice.{pick}
@@ -15,7 +15,7 @@ use Rattle.meaning.specs.Real.{same}
 use Rattle.meaning.proofs.Plain.{same-equal, same-self}
 
 pub or-zero : (d x : ℕ) → bitOr d x ≡ 0 → (d ≡ 0) × (x ≡ 0)
-or-zero d x e = let l = or-add-and d x in let m = lib.Bits.and-le-l d x in let k = lib.Bits.and-le-r d x in (omega arith, omega arith)
+or-zero d x e = let l = or-add-and d x in let m = and-le-l d x in let k = and-le-r d x in (omega arith, omega arith)
 
 pub zero-or : (d x : ℕ) → d ≡ 0 → x ≡ 0 → bitOr d x ≡ 0
 zero-or d x e f = let l = or-add-and d x in omega arith

@@ -2,19 +2,19 @@
 use mathlib.Core.Path.{_≡_, refl, ap, ap₂, sym, _∙_, subst}
 use mathlib.Core.Bool.{Bool, true, false}
 use mathlib.Core.List.{List, [], _∷_, _++_, append-assoc}
-use Prim.Native.Nat.{ℕ, zero, suc, _+_, _-_, _≤_, _<_}
+use Prim.Native.Nat.{ℕ, _+_, _-_, _≤_, _<_}
 use native.Mathlib.Nat.{zero-add}
 use native.Mathlib.Omega.{arith}
-use lib.Dec.{eqb, leb, ltb}
-use lib.ListN.{length, getD, set, take, drop, length-append, length-drop}
-use lib.Seq.{drop-append-add, take-append-seam, drop-append-seam, length-take-le, set-split, take-take}
+use lib.Dec.{leb}
+use lib.ListN.{length, getD, set, take, drop, length-append}
+use lib.Seq.{drop-append-add, take-append-seam, set-split, drop-drop}
 use borrow.Author.Tests.{le-leb, lt-leb, eq-eqb, ne-eqb}
 use Rattle.common.specs.Choice.{pick}
 use Rattle.common.specs.Places.{tab}
-use Rattle.common.specs.Answer.{Value, Answer, Delivered, refusal, deliver}
+use Rattle.common.specs.Answer.{Delivered, deliver}
 use Rattle.common.specs.Answer.Answer.{value, refused}
-use Rattle.common.proofs.Places.{length-tab, tab-ext, tab-self}
-use Rattle.common.proofs.Runs.{Run, run-none, run-more, run-whole}
+use Rattle.common.proofs.Places.{length-tab}
+use Rattle.common.proofs.Runs.{Run, run-more, run-whole}
 use Rattle.field.specs.Xor as field
 use Rattle.meaning.specs.Real.{cat, xorByte, xorBytes, xor, same, eq, head}
 use Rattle.handing.proofs.Giving.{pick-true, pick-false, gives, lacks, refuses}
@@ -46,13 +46,10 @@ module _ (a b out : List ℕ) where
         let e1 : o ≡ a ++ drop (length a) out = e ∙ ap (λ n. a ++ drop n out) z in
         let e2 : take (length a) o ≡ a = ap (take (length a)) e1 ∙ take-append-seam a (drop (length a) out) in
         let e3 : drop (length a + length b) o ≡ drop (length a + length b) out =
-        ap (drop (length a + length b)) e1 ∙ drop-append-add a (drop (length a) out) (length b) ∙ drop-again (length a) (length b) out in
+        ap (drop (length a + length b)) e1 ∙ drop-append-add a (drop (length a) out) (length b) ∙ drop-drop (length b) (length a) out in
         gives (a ++ b) out p (length a + length b) (sym (length-append a b)) l
         (f ∙ ap₂ (λ (x y : List ℕ). x ++ (b ++ y)) e2 e3 ∙ sym (append-assoc a b (drop (length a + length b) out)))
         ∙ sym (ap (λ x. deliver x out) is-cat)
-      where
-        drop-again : (n m : ℕ) (l : List ℕ) → drop m (drop n l) ≡ drop (n + m) l
-        drop-again n m l = lib.Seq.drop-drop m n l
 
 -- `xor`
 pub front-more : (f : ℕ → ℕ) (o₀ : List ℕ) (i : ℕ) (o : List ℕ) (v : ℕ) → Run f 0 o₀ i o → i < length o₀ → v ≡ f i → Run f 0 o₀ (i + 1) (set o i v)

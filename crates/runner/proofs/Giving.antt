@@ -1,24 +1,20 @@
 -- What is handed out is what the image means.
 use mathlib.Core.Path.{_≡_, refl, ap, sym, _∙_, subst}
-use mathlib.Core.Bool.{Bool, true}
-use mathlib.Core.List.{List, []}
-use Prim.Native.Nat.{ℕ, zero, _+_, _-_, _*_, _≤_, _<_}
+use mathlib.Core.List.{List}
+use Prim.Native.Nat.{ℕ, _+_, _-_, _≤_, _<_}
 use native.Mathlib.Omega.{arith}
-use lib.ListN.{length, take, drop}
-use lib.Seq.{take-length, take-all}
-use Rattle.common.specs.Answer.{Answer, Delivered, deliver}
-use Rattle.common.specs.Answer.Answer.{value, refused}
-use Rattle.tree.specs.Tree.{Tree}
-use Rattle.tree.specs.Bounds.{Bytes, depth}
+use lib.ListN.{length, take}
+use lib.Seq.{take-length}
+use Rattle.common.specs.Answer.{Delivered, deliver}
+use Rattle.common.specs.Answer.Answer.{value}
+use Rattle.tree.specs.Bounds.{Bytes}
 use Rattle.meaning.specs.Mean.{named, mean}
 use Rattle.meaning.specs.Real.{real}
 use Rattle.meaning.proofs.Within.{one-level}
 use Rattle.records.specs.Record.{word}
-use Rattle.records.specs.Encode.{encode}
 use Rattle.lists.specs.Entries.{running}
 use Rattle.lists.specs.Given.{bindingOf, runningOf}
 use Rattle.recipe.specs.Run.{ranOf}
-use Rattle.kinds.specs.Tables.{tablesOf}
 use Rattle.leaf.specs.Place.{placeOf, placed}
 use Rattle.lookup.specs.Table.{sealTable, openTable}
 use Rattle.substitutions.specs.Tables.{substitutions, unsubstitutions}

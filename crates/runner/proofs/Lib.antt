@@ -2,3 +2,5 @@
 pub mod Sounding
 pub mod Giving
 pub mod Room
+pub mod Unique
+pub mod Wrong

@@ -1,21 +1,19 @@
 -- The work room afterwards, and the whole outcome.
-use mathlib.Core.Path.{_≡_, refl, ap, ap₂, sym, _∙_, subst}
+use mathlib.Core.Path.{_≡_, refl, ap, ap₂, sym, _∙_}
 use mathlib.Core.Bool.{Bool, true, false}
-use mathlib.Core.List.{List, [], _∷_, _++_}
+use mathlib.Core.List.{List, _++_}
 use Prim.Native.Nat.{ℕ, _+_, _≤_, _<_}
 use native.Mathlib.Omega.{arith}
-use lib.Dec.{ltb}
-use lib.ListN.{length, take, drop, set, replicate, length-append, length-replicate, length-drop}
+use lib.ListN.{length, drop, set, replicate, length-append, length-replicate, length-drop}
 use lib.Seq.{drop-at}
 use borrow.Author.Tests.{lt-ltb, le-ltb}
 use borrow.Author.Fill.{fill-more}
 use Rattle.common.specs.Choice.{pick}
 use Rattle.common.specs.Answer.{Delivered, refusal, deliver}
-use Rattle.recipe.specs.Outcome.{Outcome, zeroed, cleared, outcome, inRoom}
+use Rattle.recipe.specs.Outcome.{zeroed, cleared, outcome, inRoom}
 use Rattle.recipe.specs.Run.{ranOf, runOf}
 use Rattle.modes.specs.Cell.{cellOf}
-use Rattle.answers.specs.declared.Told.{Told}
-use Rattle.answers.specs.declared.Told.the-variants.{Done, Refused}
+use Rattle.answers.specs.declared.Told.the-variants.{Refused}
 use Rattle.answers.specs.Told.{numberOf, countOf, toldOf}
 
 -- `clear`

@@ -1,16 +1,15 @@
 -- What was delivered into a slot is an answer in the work room.
-use mathlib.Core.Path.{_≡_, refl, ap, sym, _∙_, subst}
+use mathlib.Core.Path.{_≡_, refl, ap, sym, _∙_}
 use mathlib.Core.Bool.{Bool, true, false}
-use mathlib.Core.List.{List, [], _∷_, _++_, append-assoc}
-use Prim.Native.Nat.{ℕ, _+_, _-_, _≤_, _<_}
+use mathlib.Core.List.{List, _++_}
+use Prim.Native.Nat.{ℕ, _+_, _-_, _≤_}
 use native.Mathlib.Omega.{arith}
-use lib.Dec.{eqb, leb}
-use lib.ListN.{length, take, drop, length-append, length-drop, length-take}
-use lib.Seq.{take-append-le, drop-append-le, length-take-le, take-at, drop-at, take-take, take-all}
+use lib.ListN.{length, take, drop}
+use lib.Seq.{take-append-le, length-take-le, take-at, drop-at}
 use borrow.Author.Tests.{le-leb, eq-eqb, ne-eqb}
 use borrow.Rule.Slice.PartMut.{midOf, putMid, take-put, mid-len}
 use Rattle.common.specs.Choice.{pick}
-use Rattle.common.specs.Answer.{Value, Answer, Delivered, refusal, deliver}
+use Rattle.common.specs.Answer.{Answer, Delivered, refusal, deliver}
 use Rattle.common.specs.Answer.Answer.{value, refused}
 use Rattle.meaning.specs.Values.{Valued}
 use Rattle.meaning.specs.Numbers.{Numbered}

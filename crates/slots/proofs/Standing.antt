@@ -1,9 +1,9 @@
 -- What stands in one slot still stands there after work in later ones.
 use mathlib.Core.Path.{_≡_, refl, ap, sym, _∙_, subst}
-use mathlib.Core.List.{List, [], _∷_, _++_}
-use Prim.Native.Nat.{ℕ, _+_, _≤_, _<_}
+use mathlib.Core.List.{List}
+use Prim.Native.Nat.{ℕ, _+_, _≤_}
 use native.Mathlib.Omega.{arith}
-use lib.ListN.{length, take, drop, length-take, length-drop}
+use lib.ListN.{length, take, drop}
 use lib.Seq.{take-take, take-add, drop-at, length-take-le}
 use Rattle.common.specs.Answer.{Value, Answer}
 use Rattle.common.specs.Answer.Answer.{value, refused}

@@ -1,16 +1,11 @@
 use native.Mathlib.Omega.{arith}
-use mathlib.Core.Path.{refl, sym, _∙_}
+use mathlib.Core.Path.{refl}
 use Prim.Native.Nat.{_+_}
 use Rattle.applying.proofs.Loading.{load-lent}
 use Rattle.applying.proofs.Dispatch.{three-applied}
 use borrow.Author.Needs.{needs}
 use Rattle.applying.proofs.apply_three.Statement.{statement}
 use Rattle.applying.proofs.apply_three.Tie as tie
-use Rattle.applying.proofs.apply_three.Reads as reads
-use Rattle.applying.proofs.apply_three.Lts as lts
-use Rattle.applying.proofs.call_three.Reads as call-three-reads
-use Rattle.applying.proofs.load.Reads as load-reads
-use Rattle.slots.proofs.settled.Reads as settled-reads
 
 -- src/lib.rt:125:13
 load-requires : tie.Need-load-requires

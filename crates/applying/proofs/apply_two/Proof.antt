@@ -1,16 +1,11 @@
 use native.Mathlib.Omega.{arith}
-use mathlib.Core.Path.{refl, sym, _∙_}
+use mathlib.Core.Path.{refl}
 use Prim.Native.Nat.{_+_}
 use Rattle.applying.proofs.Loading.{load-lent}
 use Rattle.applying.proofs.Dispatch.{two-applied}
 use borrow.Author.Needs.{needs}
 use Rattle.applying.proofs.apply_two.Statement.{statement}
 use Rattle.applying.proofs.apply_two.Tie as tie
-use Rattle.applying.proofs.apply_two.Reads as reads
-use Rattle.applying.proofs.apply_two.Lts as lts
-use Rattle.applying.proofs.call_two.Reads as call-two-reads
-use Rattle.applying.proofs.load.Reads as load-reads
-use Rattle.slots.proofs.settled.Reads as settled-reads
 
 -- src/lib.rt:94:13
 load-requires : tie.Need-load-requires

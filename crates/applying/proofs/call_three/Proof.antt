@@ -1,14 +1,8 @@
-use native.Mathlib.Omega.{arith}
-use mathlib.Core.Path.{refl, sym, _∙_}
-use Prim.Native.Nat.{_+_}
 use Rattle.applying.proofs.Numbering.{three-says, lent-number}
 use Rattle.applying.proofs.Dispatch.{as-three}
 use borrow.Author.Needs.{needs}
 use Rattle.applying.proofs.call_three.Statement.{statement}
 use Rattle.applying.proofs.call_three.Tie as tie
-use Rattle.applying.proofs.call_three.Reads as reads
-use Rattle.applying.proofs.call_three.Lts as lts
-use Rattle.calls.proofs.call.Reads as call-reads
 
 -- src/lib.rt:75:14
 sub-f : tie.Need-sub-f

@@ -1,18 +1,8 @@
-use native.Mathlib.Omega.{arith}
-use mathlib.Core.Path.{refl, sym, _∙_}
-use Prim.Native.Nat.{_+_}
 use Rattle.applying.proofs.Numbering.{above-plain, two-says, lent-number}
 use Rattle.applying.proofs.Dispatch.{as-cat, as-xor, as-eq, as-head, as-cipher}
 use borrow.Author.Needs.{needs}
 use Rattle.applying.proofs.call_two.Statement.{statement}
 use Rattle.applying.proofs.call_two.Tie as tie
-use Rattle.applying.proofs.call_two.Reads as reads
-use Rattle.applying.proofs.call_two.Lts as lts
-use Rattle.calls.proofs.call.Reads as call-reads
-use Rattle.plain.proofs.cat.Reads as cat-reads
-use Rattle.plain.proofs.eq.Reads as eq-reads
-use Rattle.plain.proofs.head.Reads as head-reads
-use Rattle.plain.proofs.xor.Reads as xor-reads
 
 -- src/lib.rt:45:9
 cat-requires : tie.Need-cat-requires

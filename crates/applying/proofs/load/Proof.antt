@@ -6,8 +6,6 @@ use Rattle.applying.proofs.Loading.{load-more, load-done}
 use borrow.Author.Needs.{needs}
 use Rattle.applying.proofs.load.Statement.{statement}
 use Rattle.applying.proofs.load.Tie as tie
-use Rattle.applying.proofs.load.Reads as reads
-use Rattle.applying.proofs.load.Lts as lts
 
 abbrev Inv-loop : tie.InvT-loop
 Inv-loop work o n r₀ i₀ r i = (i ≤ n) × (length r ≡ 1024) × (take i r ≡ take i (drop o work))

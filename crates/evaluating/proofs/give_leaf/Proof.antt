@@ -1,14 +1,7 @@
-use native.Mathlib.Omega.{arith}
-use mathlib.Core.Path.{refl}
 use Rattle.evaluating.proofs.Meant.{leaf-nowhere, leaf-image, leaf-list}
 use borrow.Author.Needs.{needs}
 use Rattle.evaluating.proofs.give_leaf.Statement.{statement}
 use Rattle.evaluating.proofs.give_leaf.Tie as tie
-use Rattle.evaluating.proofs.give_leaf.Reads as reads
-use Rattle.evaluating.proofs.give_leaf.Lts as lts
-use Rattle.handing.proofs.hand.Reads as hand-reads
-use Rattle.leaf.proofs.leaf.Reads as leaf-reads
-use Rattle.leaf.proofs.place_of.Reads as place-of-reads
 
 -- src/lib.rt:19:9
 place-of-requires : tie.Need-place-of-requires

@@ -5,10 +5,6 @@ use Prim.Native.Nat.{_+_}
 use borrow.Author.Needs.{needs}
 use Rattle.evaluating.proofs.put_leaf.Statement.{statement}
 use Rattle.evaluating.proofs.put_leaf.Tie as tie
-use Rattle.evaluating.proofs.put_leaf.Reads as reads
-use Rattle.evaluating.proofs.put_leaf.Lts as lts
-use Rattle.evaluating.proofs.give_leaf.Reads as give-leaf-reads
-use Rattle.slots.proofs.settled.Reads as settled-reads
 
 -- src/lib.rt:57:13
 add-e : tie.Need-add-e

@@ -1,11 +1,7 @@
-use native.Mathlib.Omega.{arith}
-use mathlib.Core.Path.{refl}
 use Rattle.evaluating.proofs.Meant.{side-one, side-none}
 use borrow.Author.Needs.{needs}
 use Rattle.evaluating.proofs.side.Statement.{statement}
 use Rattle.evaluating.proofs.side.Tie as tie
-use Rattle.evaluating.proofs.side.Reads as reads
-use Rattle.evaluating.proofs.side.Lts as lts
 
 -- src/lib.rt:41:16
 shared-slice-read-result : tie.Need-shared-slice-read-result

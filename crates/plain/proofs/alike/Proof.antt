@@ -5,10 +5,6 @@ use Rattle.plain.proofs.Compared.{Met, met-none, met-more, alike-one, a
 use borrow.Author.Needs.{needs}
 use Rattle.plain.proofs.alike.Statement.{statement}
 use Rattle.plain.proofs.alike.Tie as tie
-use Rattle.plain.proofs.alike.Reads as reads
-use Rattle.plain.proofs.alike.Lts as lts
-use Rattle.field.proofs.x8.Reads as x8-reads
-use Rattle.plain.proofs.joined.Reads as joined-reads
 
 abbrev Inv-loop : tie.InvT-loop
 Inv-loop a b d₀ i₀ d i = (i ≤ length a) × Met a b i d

@@ -1,12 +1,8 @@
 use native.Mathlib.Omega.{arith}
-use mathlib.Core.Path.{refl}
 use Rattle.plain.proofs.Giving.{cat-long, cat-both-long, cat-lacks, cat-gives}
 use borrow.Author.Needs.{needs}
 use Rattle.plain.proofs.cat.Statement.{statement}
 use Rattle.plain.proofs.cat.Tie as tie
-use Rattle.plain.proofs.cat.Reads as reads
-use Rattle.plain.proofs.cat.Lts as lts
-use Rattle.handing.proofs.put.Reads as put-reads
 
 -- src/lib.rt:40:9
 returns : tie.Need-returns

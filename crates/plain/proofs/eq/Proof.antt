@@ -1,12 +1,8 @@
 use native.Mathlib.Omega.{arith}
-use mathlib.Core.Path.{refl}
 use Rattle.plain.proofs.Giving.{eq-lacks, eq-gives}
 use borrow.Author.Needs.{needs}
 use Rattle.plain.proofs.eq.Statement.{statement}
 use Rattle.plain.proofs.eq.Tie as tie
-use Rattle.plain.proofs.eq.Reads as reads
-use Rattle.plain.proofs.eq.Lts as lts
-use Rattle.plain.proofs.same_value.Reads as same-value-reads
 
 -- src/lib.rt:117:9
 returns : tie.Need-returns

@@ -2,14 +2,10 @@ use mathlib.Core.Path.{sym}
 use lib.ListN.{getD}
 use lib.Seq.{length-take-le}
 use native.Mathlib.Omega.{arith}
-use mathlib.Core.Path.{refl}
 use Rattle.plain.proofs.Giving.{head-count, head-short, head-gives}
 use borrow.Author.Needs.{needs}
 use Rattle.plain.proofs.head.Statement.{statement}
 use Rattle.plain.proofs.head.Tie as tie
-use Rattle.plain.proofs.head.Reads as reads
-use Rattle.plain.proofs.head.Lts as lts
-use Rattle.handing.proofs.hand.Reads as hand-reads
 
 -- src/lib.rt:127:9
 returns : tie.Need-returns

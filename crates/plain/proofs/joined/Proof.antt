@@ -1,9 +1,6 @@
 use Rattle.plain.proofs.Compared.{or-zero, zero-or}
-use borrow.Author.Needs.{needs}
 use Rattle.plain.proofs.joined.Statement.{statement}
 use Rattle.plain.proofs.joined.Tie as tie
-use Rattle.plain.proofs.joined.Reads as reads
-use Rattle.plain.proofs.joined.Lts as lts
 
 -- src/lib.rt:81:1
 returns : tie.Need-returns

@@ -2,15 +2,11 @@ use Rattle.common.proofs.Runs.{Run, run-none}
 use Prim.Native.Nat.{_≤_, _-_}
 use native.Mathlib.Omega.{arith}
 use lib.ListN.{length, getD}
-use mathlib.Core.Path.{refl}
 use Rattle.field.specs.Xor.{xor}
 use Rattle.plain.proofs.Giving.{front-more, xor-whole}
 use borrow.Author.Needs.{needs}
 use Rattle.plain.proofs.put_xor.Statement.{statement}
 use Rattle.plain.proofs.put_xor.Tie as tie
-use Rattle.plain.proofs.put_xor.Reads as reads
-use Rattle.plain.proofs.put_xor.Lts as lts
-use Rattle.field.proofs.x8.Reads as x8-reads
 
 abbrev Inv-loop : tie.InvT-loop
 Inv-loop a b out₀ i₀ out i = (i ≤ length a) × Run (λ j. xor (getD a j 0) (getD b j 0)) 0 out₀ i out

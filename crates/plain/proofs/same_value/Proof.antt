@@ -2,9 +2,6 @@ use Rattle.plain.proofs.Compared.{other-length}
 use borrow.Author.Needs.{needs}
 use Rattle.plain.proofs.same_value.Statement.{statement}
 use Rattle.plain.proofs.same_value.Tie as tie
-use Rattle.plain.proofs.same_value.Reads as reads
-use Rattle.plain.proofs.same_value.Lts as lts
-use Rattle.plain.proofs.alike.Reads as alike-reads
 
 -- src/lib.rt:108:9
 alike-requires : tie.Need-alike-requires

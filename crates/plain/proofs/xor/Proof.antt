@@ -1,12 +1,8 @@
 use native.Mathlib.Omega.{arith}
-use mathlib.Core.Path.{refl}
 use Rattle.plain.proofs.Giving.{xor-unequal, xor-lacks, xor-gives}
 use borrow.Author.Needs.{needs}
 use Rattle.plain.proofs.xor.Statement.{statement}
 use Rattle.plain.proofs.xor.Tie as tie
-use Rattle.plain.proofs.xor.Reads as reads
-use Rattle.plain.proofs.xor.Lts as lts
-use Rattle.plain.proofs.put_xor.Reads as put-xor-reads
 
 -- src/lib.rt:71:9
 returns : tie.Need-returns

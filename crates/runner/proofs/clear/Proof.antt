@@ -1,14 +1,12 @@
 use native.Mathlib.Omega.{arith}
-use mathlib.Core.Path.{_≡_, refl, sym, ap, _∙_}
+use mathlib.Core.Path.{_≡_, ap}
 use Prim.Native.Nat.{_+_, _-_, _≤_}
-use lib.ListN.{length, take, drop, replicate}
+use lib.ListN.{length, drop, replicate}
 use mathlib.Core.List.{_++_}
 use Rattle.runner.proofs.Room.{fills-none, fills-more, fills-done, filled-length}
 use borrow.Author.Needs.{needs}
 use Rattle.runner.proofs.clear.Statement.{statement}
 use Rattle.runner.proofs.clear.Tie as tie
-use Rattle.runner.proofs.clear.Reads as reads
-use Rattle.runner.proofs.clear.Lts as lts
 
 abbrev Inv-loop : tie.InvT-loop
 Inv-loop w₀ n i₀ w i = (i ≤ n) × (w ≡ replicate i 0 ++ drop i w₀)

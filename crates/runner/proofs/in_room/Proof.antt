@@ -1,16 +1,11 @@
 use native.Mathlib.Omega.{arith}
-use mathlib.Core.Path.{_≡_, refl, sym, ap, _∙_}
-use Prim.Native.Nat.{_+_, _-_, _≤_}
-use lib.ListN.{length, take, drop, replicate}
+use mathlib.Core.Path.{sym, _∙_}
+use Prim.Native.Nat.{_-_}
 use lib.Seq.{length-take-le}
 use Rattle.runner.proofs.Room.{cleared-front}
 use borrow.Author.Needs.{needs}
 use Rattle.runner.proofs.in_room.Statement.{statement}
 use Rattle.runner.proofs.in_room.Tie as tie
-use Rattle.runner.proofs.in_room.Reads as reads
-use Rattle.runner.proofs.in_room.Lts as lts
-use Rattle.runner.proofs.clear.Reads as clear-reads
-use Rattle.runner.proofs.ran.Reads as ran-reads
 
 -- src/lib.rt:135:35
 slice-relend-prefix-ran : tie.Need-slice-relend-prefix-ran

@@ -1,18 +1,9 @@
 use native.Mathlib.Omega.{arith}
-use mathlib.Core.Path.{_≡_, refl, sym, ap, _∙_}
-use Prim.Native.Nat.{_+_, _-_, _≤_}
-use lib.ListN.{length, take, drop, replicate}
+use Prim.Native.Nat.{_-_}
 use Rattle.runner.proofs.Giving.{sound-head, root-leaf, sound-as}
 use borrow.Author.Needs.{needs}
 use Rattle.runner.proofs.meant.Statement.{statement}
 use Rattle.runner.proofs.meant.Tie as tie
-use Rattle.runner.proofs.meant.Reads as reads
-use Rattle.runner.proofs.meant.Lts as lts
-use Rattle.evaluating.proofs.give_leaf.Reads as give-leaf-reads
-use Rattle.heads.proofs.word_at.Reads as word-at-reads
-use Rattle.runner.proofs.with_none.Reads as with-none-reads
-use Rattle.runner.proofs.with_opening.Reads as with-opening-reads
-use Rattle.runner.proofs.with_sealing.Reads as with-sealing-reads
 
 -- src/lib.rt:96:8
 word-at-requires : tie.Need-word-at-requires

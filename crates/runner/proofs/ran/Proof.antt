@@ -1,16 +1,10 @@
 use native.Mathlib.Omega.{arith}
-use mathlib.Core.Path.{_≡_, refl, sym, ap, _∙_}
-use Prim.Native.Nat.{_+_, _-_, _≤_}
-use lib.ListN.{length, take, drop, replicate}
+use mathlib.Core.Path.{sym, _∙_}
+use Prim.Native.Nat.{_-_}
 use Rattle.runner.proofs.Sounding.{is-sound, refuses-28, refuses-27}
 use borrow.Author.Needs.{needs}
 use Rattle.runner.proofs.ran.Statement.{statement}
 use Rattle.runner.proofs.ran.Tie as tie
-use Rattle.runner.proofs.ran.Reads as reads
-use Rattle.runner.proofs.ran.Lts as lts
-use Rattle.image_check.proofs.check.Reads as check-reads
-use Rattle.listing.proofs.good.Reads as good-reads
-use Rattle.runner.proofs.meant.Reads as meant-reads
 
 -- src/lib.rt:113:11
 check-requires : tie.Need-check-requires

@@ -1,14 +1,9 @@
-use native.Mathlib.Omega.{arith}
-use mathlib.Core.Path.{_≡_, refl, sym, ap, _∙_}
-use Prim.Native.Nat.{_+_, _-_, _≤_}
-use lib.ListN.{length, take, drop, replicate}
+use mathlib.Core.Path.{refl}
+use Prim.Native.Nat.{_-_}
 use Rattle.runner.proofs.Room.{no-room, had-room}
 use borrow.Author.Needs.{needs}
 use Rattle.runner.proofs.run.Statement.{statement}
 use Rattle.runner.proofs.run.Tie as tie
-use Rattle.runner.proofs.run.Reads as reads
-use Rattle.runner.proofs.run.Lts as lts
-use Rattle.runner.proofs.in_room.Reads as in-room-reads
 
 -- src/lib.rt:145:9
 returns : tie.Need-returns

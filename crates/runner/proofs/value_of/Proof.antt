@@ -1,16 +1,12 @@
 use native.Mathlib.Omega.{arith}
-use mathlib.Core.Path.{_≡_, refl, sym, ap, _∙_}
-use Prim.Native.Nat.{_+_, _-_, _≤_}
-use lib.ListN.{length, take, drop, replicate}
+use mathlib.Core.Path.{sym}
+use Prim.Native.Nat.{_-_}
+use lib.ListN.{length}
 use lib.Seq.{length-take-le}
 use Rattle.runner.proofs.Giving.{run-ready, run-small, run-refused, run-value}
 use borrow.Author.Needs.{needs}
 use Rattle.runner.proofs.value_of.Statement.{statement}
 use Rattle.runner.proofs.value_of.Tie as tie
-use Rattle.runner.proofs.value_of.Reads as reads
-use Rattle.runner.proofs.value_of.Lts as lts
-use Rattle.evaluating.proofs.eval.Reads as eval-reads
-use Rattle.handing.proofs.hand.Reads as hand-reads
 
 -- src/lib.rt:41:11
 eval-requires : tie.Need-eval-requires

@@ -1,14 +1,8 @@
-use native.Mathlib.Omega.{arith}
-use mathlib.Core.Path.{_≡_, refl, sym, ap, _∙_}
-use Prim.Native.Nat.{_+_, _-_, _≤_}
-use lib.ListN.{length, take, drop, replicate}
+use Prim.Native.Nat.{_-_}
 use Rattle.runner.proofs.Giving.{served, lent-none}
 use borrow.Author.Needs.{needs}
 use Rattle.runner.proofs.with_none.Statement.{statement}
 use Rattle.runner.proofs.with_none.Tie as tie
-use Rattle.runner.proofs.with_none.Reads as reads
-use Rattle.runner.proofs.with_none.Lts as lts
-use Rattle.runner.proofs.value_of.Reads as value-of-reads
 
 -- src/lib.rt:54:5
 value-of-requires : tie.Need-value-of-requires

@@ -1,15 +1,8 @@
-use native.Mathlib.Omega.{arith}
-use mathlib.Core.Path.{_≡_, refl, sym, ap, _∙_}
-use Prim.Native.Nat.{_+_, _-_, _≤_}
-use lib.ListN.{length, take, drop, replicate}
+use Prim.Native.Nat.{_-_}
 use Rattle.runner.proofs.Giving.{served, lent-sealing}
 use borrow.Author.Needs.{needs}
 use Rattle.runner.proofs.with_sealing.Statement.{statement}
 use Rattle.runner.proofs.with_sealing.Tie as tie
-use Rattle.runner.proofs.with_sealing.Reads as reads
-use Rattle.runner.proofs.with_sealing.Lts as lts
-use Rattle.runner.proofs.value_of.Reads as value-of-reads
-use Rattle.seal_table.proofs.table.Reads as table-reads
 
 -- src/lib.rt:62:15
 table-requires : tie.Need-table-requires

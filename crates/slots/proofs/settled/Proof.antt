@@ -2,8 +2,6 @@ use Rattle.slots.proofs.Settling.{settles-done, settles-none, settles-r
 use borrow.Author.Needs.{needs}
 use Rattle.slots.proofs.settled.Statement.{statement}
 use Rattle.slots.proofs.settled.Tie as tie
-use Rattle.slots.proofs.settled.Reads as reads
-use Rattle.slots.proofs.settled.Lts as lts
 
 -- src/lib.rt:11:20
 enum-known-t : tie.Need-enum-known-t
