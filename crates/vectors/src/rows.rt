@@ -38,6 +38,22 @@ fn grown(v: u64, b: usize) -> u64 {
     v % 72057594037927936 * 256 + (b % 256) as u64
 }
 
+// The letters from p on up to a blank, as a number.
+pub(crate) fn word_at(s: &[u8], p: usize) -> u64
+    requires { ⌜ p ≤ length (now s) ⌝ }
+{
+    let mut v: u64 = 0;
+    let mut i = p;
+    while i < s.len() {
+        if s[i] == b' ' {
+            return v;
+        }
+        v = grown(v, tokens::wide(s[i]));
+        i += 1;
+    }
+    v
+}
+
 // The number that pairs of digits spell from p on, high byte first.
 pub(crate) fn number_at(s: &[u8], p: usize) -> u64
     requires { ⌜ p ≤ length (now s) ⌝ }
