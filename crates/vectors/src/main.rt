@@ -24,20 +24,20 @@ struct Ask {
 // The calls in the order of document 01, section 6, by their letters; 12 and 13 are the key schedule, 14 is none.
 fn call_of(word: u64) -> usize {
     match word {
-        0x626C6B => 0,
-        0x756E626C6B => 1,
-        0x637472 => 2,
-        0x6F6662 => 3,
-        0x636662 => 4,
-        0x756E636662 => 5,
-        0x636263 => 6,
-        0x756E636263 => 7,
-        0x636270 => 8,
-        0x756E636270 => 9,
-        0x6D6163 => 10,
-        0x63686B => 11,
-        0x68656C706572 => 12,
-        0x726F756E6473 => 13,
+        0x626C6B => 0, // blk
+        0x756E626C6B => 1, // unblk
+        0x637472 => 2, // ctr
+        0x6F6662 => 3, // ofb
+        0x636662 => 4, // cfb
+        0x756E636662 => 5, // uncfb
+        0x636263 => 6, // cbc
+        0x756E636263 => 7, // uncbc
+        0x636270 => 8, // cbp
+        0x756E636270 => 9, // uncbp
+        0x6D6163 => 10, // mac
+        0x63686B => 11, // chk
+        0x68656C706572 => 12, // helper
+        0x726F756E6473 => 13, // rounds
         _ => 14,
     }
 }
@@ -77,22 +77,18 @@ fn filled(v: &[u8]) -> [u8; 2048]
     b
 }
 
-// Whether a call answers so into the front of a buffer: the number, n as its length, and every byte of the buffer.
-fn gives(
-    a: Ask,
-    key: &[u8],
-    side: &[u8],
-    text: &[u8],
-    n: usize,
-    due: &[u8],
-    out: &mut [u8],
-) -> bool {
+// Whether a call into the front of a filled buffer answers so: the number, the length, and every byte of the buffer.
+fn answers(a: Ask, key: &[u8], side: &[u8], text: &[u8], want: &[u8]) -> bool {
     let room = a.room;
-    if out.len() < room {
+    if 2048 < room {
         return false;
     }
+    if 2048 < want.len() {
+        return false;
+    }
+    let mut out = filled(b"");
     let mut length: usize = 2049;
-    let m = entry(
+    let n = entry(
         a.call,
         a.suite,
         key,
@@ -101,22 +97,14 @@ fn gives(
         &mut out[0..room],
         &mut length,
     );
-    if m as u64 != a.number {
+    if n as u64 != a.number {
         return false;
     }
-    if length != n {
-        return false;
-    }
-    check::same(out, due)
-}
-
-fn answers(a: Ask, key: &[u8], side: &[u8], text: &[u8], want: &[u8]) -> bool {
-    if 2048 < want.len() {
+    if length != want.len() {
         return false;
     }
     let due = filled(want);
-    let mut out = filled(b"");
-    gives(a, key, side, text, want.len(), &due, &mut out)
+    check::same(&out, &due)
 }
 
 // The call that undoes call f.
@@ -168,10 +156,10 @@ fn does(a: Ask, key: &[u8], side: &[u8], text: &[u8], want: &[u8]) -> bool {
 
 fn ask_of(s: &[u8]) -> Ask {
     Ask {
-        call: call_of(rows::word_at(s, rows::field(s, 1))),
-        suite: rows::number_at(s, rows::field(s, 2)),
-        number: rows::number_at(s, rows::field(s, 3)),
-        room: rows::number_at(s, rows::field(s, 4)) as usize,
+        call: call_of(rows::word(s, 1)),
+        suite: rows::number(s, 2),
+        number: rows::number(s, 3),
+        room: rows::number(s, 4) as usize,
     }
 }
 
@@ -189,10 +177,10 @@ fn due_of(s: &[u8], b: &[u8], key: usize, side: usize, text: usize, want: usize)
 }
 
 fn right_in(s: &[u8], b: &mut [u8]) -> bool {
-    let key = rows::bytes_at(s, rows::field(s, 5), b, 0);
-    let side = rows::bytes_at(s, rows::field(s, 6), b, key);
-    let text = rows::bytes_at(s, rows::field(s, 7), b, side);
-    let want = rows::bytes_at(s, rows::field(s, 8), b, text);
+    let key = rows::bytes_in(s, 5, b, 0);
+    let side = rows::bytes_in(s, 6, b, key);
+    let text = rows::bytes_in(s, 7, b, side);
+    let want = rows::bytes_in(s, 8, b, text);
     due_of(s, b, key, side, text, want)
 }
 

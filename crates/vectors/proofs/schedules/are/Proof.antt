@@ -12,63 +12,48 @@ use Rattle.seal_table.proofs.table.Reads as table-reads
 use Rattle.suites.proofs.suite_of.Reads as suite-of-reads
 use Rattle.vectors.proofs.schedules.columns_are.Reads as columns-are-reads
 
--- src/schedules.rt:27:27
 suite-of-requires : tie.Need-suite-of-requires
 suite-of-requires c κs = search needs
 
--- src/schedules.rt:27:22
 enum-known-s : tie.Need-enum-known-s
 enum-known-s c = search needs
 
--- src/schedules.rt:28:9
 enum-told : tie.Need-enum-told
 enum-told c = search needs
 
--- src/schedules.rt:28:9
 returns : tie.Need-returns
 returns c = search needs
 
--- src/schedules.rt:32:21
 mul-if1 : tie.Need-mul-if1
 mul-if1 c = search needs
 
--- src/schedules.rt:33:9
 returns-2 : tie.Need-returns-2
 returns-2 c = search needs
 
--- src/schedules.rt:35:13
 table-requires : tie.Need-table-requires
 table-requires c κs = search needs
 
--- src/schedules.rt:37:17
 helper-columns-requires : tie.Need-helper-columns-requires
 helper-columns-requires c κs = let row : Row (c .before .before .before .before .before .before .before .s .given .0 .0) = known-row (c .before .before .before .before .before .before .before .before .before .before .before .before .args .suite) (c .before .before .before .before .before .before .before .s .given .0 .0) (sym (c .before .before .before .before .before .before .before .before .before .suite-of .ensures) ∙ c .before .before .before .before .before .before .before .s .given .1) in (c .before .before .table .ensures, row .sized, c .before .before .before .if1 .left)
 
--- src/schedules.rt:38:28
 slice-aggregate-columns-are : tie.Need-slice-aggregate-columns-are
 slice-aggregate-columns-are c = search needs
 
--- src/schedules.rt:38:9
 columns-are-requires : tie.Need-columns-are-requires
 columns-are-requires c κs = search needs
 
--- src/schedules.rt:38:9
 returns-3 : tie.Need-returns-3
 returns-3 c = search needs
 
--- src/schedules.rt:40:14
 schedule-requires : tie.Need-schedule-requires
 schedule-requires c κs = let row : Row (c .before .before .before .before .before .before .before .s .given .0 .0) = known-row (c .before .before .before .before .before .before .before .before .before .before .before .before .args .suite) (c .before .before .before .before .before .before .before .s .given .0 .0) (sym (c .before .before .before .before .before .before .before .before .before .suite-of .ensures) ∙ c .before .before .before .before .before .before .before .s .given .1) in (c .before .before .table .ensures, row .sized, c .before .before .before .if1 .left, row .even, row .most)
 
--- src/schedules.rt:41:17
 slice-aggregate-columns-are-2 : tie.Need-slice-aggregate-columns-are-2
 slice-aggregate-columns-are-2 c = search needs
 
--- src/schedules.rt:41:5
 columns-are-requires-2 : tie.Need-columns-are-requires-2
 columns-are-requires-2 c κs = search needs
 
--- src/schedules.rt:26:1
 returns-4 : tie.Need-returns-4
 returns-4 c = search needs
 
