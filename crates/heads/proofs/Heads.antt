@@ -21,7 +21,7 @@ pub too-few : (s : List ℕ) (at : ℕ) → length s - at < 4 → Cut ≡ headAt
 unfolding headAt frontOf headOf
 too-few s at h = ap headOf (sym (pick-true _ _ _ (lt-ltb (length (drop at s)) 4 (simp length-drop (omega arith)))))
 
-word-drop : (s : List ℕ) (at i : ℕ) → word (drop at s) i ≡ word s (at + i)
+pub word-drop : (s : List ℕ) (at i : ℕ) → word (drop at s) i ≡ word s (at + i)
 word-drop s at i = rw (getD-drop, getD-drop, assoc)
   where
     assoc : at + (i + 1) ≡ (at + i) + 1

@@ -11,7 +11,8 @@ pub enum Head {
     Cut,
 }
 
-fn word_at(s: &[u8], i: usize) -> usize
+// The two bytes at a place, low byte first.
+pub fn word_at(s: &[u8], i: usize) -> usize
     requires { ⌜ i + 1 < length (now s) ⌝ }
     ensures { λ r. ⌜ (r ≡ word (now (s .entry)) i) × (r < 65536) ⌝ }
 {

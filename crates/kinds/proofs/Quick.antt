@@ -26,7 +26,8 @@ pub pick-false : {A : Type 0} (b : Bool) (x y : A) → b ≡ false → pick b x 
 unfolding pick
 pick-false b x y e = rw e
 
-unfoldable allBelow : ℕ → (ℕ → Bool) → Bool
+-- whether a test holds below n
+unfoldable pub allBelow : ℕ → (ℕ → Bool) → Bool
 allBelow zero f = true
 allBelow (suc n) f = pick (f n) (allBelow n f) false
 
@@ -38,7 +39,7 @@ unfolding pick
 pick-both true c e = (refl, e)
 pick-both false c e = absurd (false-true e)
 
-all-at : (n : ℕ) (f : ℕ → Bool) (i : ℕ) → allBelow n f ≡ true → i < n → f i ≡ true
+pub all-at : (n : ℕ) (f : ℕ → Bool) (i : ℕ) → allBelow n f ≡ true → i < n → f i ≡ true
 unfolding allBelow
 all-at zero f i e h = absurd (omega arith)
 all-at (suc n) f i e h =
@@ -88,6 +89,24 @@ quick-few k =
 
 pub arguments-few : (k : ℕ) → argumentsOf k ≤ 3
 arguments-few k = let q = quick-is k in let f = quick-few k in omega arith
+
+-- none takes one
+one-pick : (b : Bool) (x y : ℕ) → (x ≡ 1 → ⊥) → (y ≡ 1 → ⊥) → pick b x y ≡ 1 → ⊥
+unfolding pick
+one-pick true x y f g = f
+one-pick false x y f g = g
+
+quick-not-one : (k : ℕ) → quick k ≡ 1 → ⊥
+unfolding quick cipherArguments
+quick-not-one k =
+    let none : _≡_ {A = ℕ} 0 1 → ⊥ = λ e. omega arith in
+    let two : _≡_ {A = ℕ} 2 1 → ⊥ = λ e. omega arith in
+    let three : _≡_ {A = ℕ} 3 1 → ⊥ = λ e. omega arith in
+    one-pick _ _ _ none (one-pick _ _ _ two (one-pick _ _ _ three (one-pick _ _ _ none (one-pick _ _ _
+    (one-pick _ _ _ none (one-pick _ _ _ (one-pick _ _ _ two (one-pick _ _ _ two three)) none)) none))))
+
+pub arguments-not-one : (k : ℕ) → argumentsOf k ≡ 1 → ⊥
+arguments-not-one k e = quick-not-one k (quick-is k ∙ e)
 
 -- the ways of `arguments`
 module _ (k : ℕ) where

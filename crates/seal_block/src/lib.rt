@@ -25,18 +25,62 @@ pub fn round(tab: &[u8; 8192], s: &mut [u16], n: usize, c: usize, ks: &[u64], at
     seal_rounds::walk8(tab, s, n, ks, at);
 }
 
+// Rounds 1 to t - 1 of t on blocks of 2 columns: by case once a cell, not once a round.
+fn rounds2(tab: &[u8; 8192], s: &mut [u16], n: usize, t: usize, ks: &[u64])
+    requires { ⌜ (now tab ≡ sealTable) × (0 < t) × (4 * (2 * n) ≤ length (now s)) × (2 * (t + 1) ≤ length (now ks)) ⌝ }
+    ensures { λ r. ⌜ Walked 2 n (λ x. rounds 2 (keysOf 2 (now (ks .entry))) x (t - 1)) (now (s .entry)) (now (s .exit)) ⌝ }
+{
+    let mut m: usize = 0;
+    let mut at: usize = 2;
+    while m + 1 < t {
+        seal_rounds::walk2(tab, s, n, ks, at);
+        at += 2;
+        m += 1;
+    }
+}
+
+// Rounds 1 to t - 1 of t on blocks of 4 columns.
+fn rounds4(tab: &[u8; 8192], s: &mut [u16], n: usize, t: usize, ks: &[u64])
+    requires { ⌜ (now tab ≡ sealTable) × (0 < t) × (4 * (4 * n) ≤ length (now s)) × (4 * (t + 1) ≤ length (now ks)) ⌝ }
+    ensures { λ r. ⌜ Walked 4 n (λ x. rounds 4 (keysOf 4 (now (ks .entry))) x (t - 1)) (now (s .entry)) (now (s .exit)) ⌝ }
+{
+    let mut m: usize = 0;
+    let mut at: usize = 4;
+    while m + 1 < t {
+        seal_rounds::walk4(tab, s, n, ks, at);
+        at += 4;
+        m += 1;
+    }
+}
+
+// Rounds 1 to t - 1 of t on blocks of 8 columns.
+fn rounds8(tab: &[u8; 8192], s: &mut [u16], n: usize, t: usize, ks: &[u64])
+    requires { ⌜ (now tab ≡ sealTable) × (0 < t) × (4 * (8 * n) ≤ length (now s)) × (8 * (t + 1) ≤ length (now ks)) ⌝ }
+    ensures { λ r. ⌜ Walked 8 n (λ x. rounds 8 (keysOf 8 (now (ks .entry))) x (t - 1)) (now (s .entry)) (now (s .exit)) ⌝ }
+{
+    let mut m: usize = 0;
+    let mut at: usize = 8;
+    while m + 1 < t {
+        seal_rounds::walk8(tab, s, n, ks, at);
+        at += 8;
+        m += 1;
+    }
+}
+
 // Rounds 1 to t - 1 of t.
 fn rounds_of(tab: &[u8; 8192], s: &mut [u16], n: usize, c: usize, t: usize, ks: &[u64])
     requires { ⌜ (now tab ≡ sealTable) × Width c × (0 < t) × (4 * (c * n) ≤ length (now s)) × (c * (t + 1) ≤ length (now ks)) ⌝ }
     ensures { λ r. ⌜ Walked c n (λ x. rounds c (keysOf c (now (ks .entry))) x (t - 1)) (now (s .entry)) (now (s .exit)) ⌝ }
 {
-    let mut m: usize = 0;
-    let mut at = c;
-    while m + 1 < t {
-        round(tab, s, n, c, ks, at);
-        at += c;
-        m += 1;
+    if c == 2 {
+        rounds2(tab, s, n, t, ks);
+        return;
     }
+    if c == 4 {
+        rounds4(tab, s, n, t, ks);
+        return;
+    }
+    rounds8(tab, s, n, t, ks);
 }
 
 // The last round, whose key is added modulo 2^64.

@@ -15,7 +15,8 @@ use Rattle.texts.specs.Reading.{exprAt, endAt, readText}
 use Rattle.texts.specs.Reading.Part.{bad}
 use Rattle.text_reader.specs.declared.Parsed.{Parsed}
 use Rattle.text_reader.specs.declared.Parsed.the-variants.{Fine, No}
-use Rattle.text_reader.specs.Reader.{put, parsedOf, cleared, outOf, Holds, Whole, Answers}
+use Rattle.record_out.specs.Put.{put}
+use Rattle.text_reader.specs.Reader.{parsedOf, cleared, outOf, Holds, Whole, Answers}
 use Rattle.text_reader.proofs.Steps.{Got}
 
 -- two results that meet the contract are equal

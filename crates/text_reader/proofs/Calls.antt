@@ -29,8 +29,9 @@ use Rattle.tokens.specs.Tokens.{headAt}
 use Rattle.tokens.specs.declared.Head.the-variants.{Opens, Not}
 use Rattle.tokens.proofs.Heads.{Opened, afterHead, head-call}
 use Rattle.text_reader.specs.declared.Step.the-variants.{Read}
-use Rattle.text_reader.specs.Reader.{put, encodes, inRecords, leafAt, Reads}
-use Rattle.text_reader.proofs.Put.{front, head-before}
+use Rattle.record_out.specs.Put.{put}
+use Rattle.text_reader.specs.Reader.{encodes, inRecords, leafAt, Reads}
+use Rattle.record_out.proofs.Put.{front, head-before}
 use Rattle.text_reader.proofs.Steps.{Got, reads-part, leaf-is}
 
 -- an expression by its first byte

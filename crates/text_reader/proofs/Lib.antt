@@ -1,5 +1,4 @@
 -- Laws of the reader of texts.
-pub mod Put
 pub mod Steps
 pub mod Literals
 pub mod Zeros

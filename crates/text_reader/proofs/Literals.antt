@@ -22,8 +22,9 @@ use Rattle.texts.proofs.Ways.{run-step}
 use Rattle.tokens.specs.Tokens.{digitAt, pairOf}
 use Rattle.tokens.proofs.Laws.{Figure, digit-there, digit-none, pair-whole}
 use Rattle.text_reader.specs.declared.Step.the-variants.{Read, No}
-use Rattle.text_reader.specs.Reader.{put, inRecords, Reads}
-use Rattle.text_reader.proofs.Put.{front, head-before, put-run}
+use Rattle.record_out.specs.Put.{put}
+use Rattle.text_reader.specs.Reader.{inRecords, Reads}
+use Rattle.record_out.proofs.Put.{front, head-before, put-run}
 use Rattle.text_reader.proofs.Steps.{reads-bad, reads-part}
 
 -- a pair of digits stands at q

@@ -14,8 +14,9 @@ use Rattle.texts.specs.Reading.Part.{part, bad}
 use Rattle.texts.specs.Reading.Due.{stands, missing}
 use Rattle.text_reader.specs.declared.Step.{Step}
 use Rattle.text_reader.specs.declared.Step.the-variants.{Read, No}
-use Rattle.text_reader.specs.Reader.{put, encodes, inRecords, leafAt, stepOf, Written, Reads}
-use Rattle.text_reader.proofs.Put.{put-after, put-none}
+use Rattle.record_out.specs.Put.{put}
+use Rattle.text_reader.specs.Reader.{encodes, inRecords, leafAt, stepOf, Written, Reads}
+use Rattle.record_out.proofs.Put.{put-after, put-none}
 
 no-read : {k w q m e : ℕ} → No k w ≡ Read q m e → ⊥
 no-read x = let z : _≡_ {A = ℕ} 0 1 = cc in omega arith

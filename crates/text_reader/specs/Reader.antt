@@ -8,6 +8,7 @@ use Rattle.tree.specs.Reading as tree
 use Rattle.tree.specs.Reading.Read.{got, wrong}
 use Rattle.records.specs.Record.{recordOf}
 use Rattle.records.specs.Encode.{encode}
+use Rattle.record_out.specs.Put.{put}
 use Rattle.texts.specs.Reading.{Part, dueAt, ifDue}
 use Rattle.texts.specs.Reading.Part.{part, bad}
 use Rattle.text_reader.specs.declared.Step as step
@@ -57,10 +58,6 @@ Holds (wrong k p) before after = Unit {0}
 pub record Whole (i : tree.Read) (r : Parsed) (before after : List ℕ) : Type 0 where
   pub says : r ≡ parsedOf i
   pub holds : Holds i before after
-
--- l with v written from o on
-unfoldable pub put : List ℕ → ℕ → List ℕ → List ℕ
-put l o v = take o l ++ (v ++ drop (o + length v) l)
 
 -- arguments' records, one after another
 unfoldable pub encodes : List Tree → List ℕ

@@ -1,12 +1,10 @@
 // Reads a recipe's text to its tree in records (document 01, sections 5 to 7), or to a number and its place.
 ghost use mathlib.Core.Path.{_≡_};
-ghost use mathlib.Core.List.{[], _∷_};
 ghost use Prim.Native.Nat.{_+_, _*_, _-_, _/_, _%_, _≤_, _<_};
 ghost use lib.ListN.{length};
-ghost use Rattle.records.specs.Record.{recordOf};
 ghost use Rattle.records.specs.Encode.{encode};
 ghost use Rattle.texts.specs.Reading.{literalAt, argsAt, exprAt, readText};
-ghost use Rattle.text_reader.specs.Reader.{put, encodes, inRecords, leafAt, Reads, Whole, Answers, cleared};
+ghost use Rattle.text_reader.specs.Reader.{encodes, inRecords, leafAt, Reads, Whole, Answers, cleared};
 use tokens::Due;
 use tokens::Head;
 
@@ -22,26 +20,6 @@ pub enum Parsed {
     No(usize, usize),
 }
 
-// A record's head at o: n bytes of payload, kind k.
-fn put_head(out: &mut [u8], o: usize, n: usize, k: usize)
-    requires { ⌜ (o + 4 ≤ length (now out)) × (n < 65536) × (k < 65536) ⌝ }
-    ensures { λ _. ⌜ now (out .exit) ≡ put (now (out .entry)) o (n % 256 ∷ n / 256 ∷ k % 256 ∷ k / 256 ∷ []) ⌝ }
-{
-    out[o] = (n % 256) as u8;
-    out[o + 1] = (n / 256) as u8;
-    out[o + 2] = (k % 256) as u8;
-    out[o + 3] = (k / 256) as u8;
-}
-
-// A record of one byte.
-fn put_leaf(out: &mut [u8], o: usize, k: usize, b: u8)
-    requires { ⌜ (o + 5 ≤ length (now out)) × (k < 65536) ⌝ }
-    ensures { λ _. ⌜ now (out .exit) ≡ put (now (out .entry)) o (recordOf k (b ∷ [])) ⌝ }
-{
-    put_head(out, o, 1, k);
-    out[o + 4] = b;
-}
-
 // A name's digit, up to the byte hi, is due after its sign at p; its record has kind k.
 fn name_at(s: &[u8], p: usize, n: usize, hi: u8, k: usize, out: &mut [u8], o: usize) -> Step
     requires { ⌜ (p < length (now s)) × (n < 128) × (k < 65536) × (o + 3 * (length (now s) - p) ≤ length (now out)) ⌝ }
@@ -50,7 +28,7 @@ fn name_at(s: &[u8], p: usize, n: usize, hi: u8, k: usize, out: &mut [u8], o: us
     match tokens::due_at(s, 48, hi, p + 1) {
         Due::Missing(w) => Step::No(20, w),
         Due::Stands => {
-            put_leaf(out, o, k, s[p + 1] - 48);
+            record_out::put_leaf(out, o, k, s[p + 1] - 48);
             Step::Read(p + 2, n + 1, o + 5)
         }
     }
@@ -80,7 +58,7 @@ fn literal_at(s: &[u8], p: usize, n: usize, out: &mut [u8], o: usize) -> Step
             if 1024 < j {
                 return Step::No(6, p);
             }
-            put_head(out, o, j, 1);
+            record_out::put_head(out, o, j, 1);
             Step::Read(q + 1, n + 1, o + 4 + j)
         }
     }
@@ -118,7 +96,7 @@ fn expression(s: &[u8], p: usize, d: usize, n: usize, out: &mut [u8], o: usize) 
         Head::Opens(k, c, q) => match arguments(s, q, d - 1, n + 1, b'(', c, out, o + 4) {
             Step::No(i, w) => Step::No(i, w),
             Step::Read(u, m, e) => {
-                put_head(out, o, e - o - 4, k);
+                record_out::put_head(out, o, e - o - 4, k);
                 Step::Read(u, m, e)
             }
         },

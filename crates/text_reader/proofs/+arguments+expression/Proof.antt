@@ -23,7 +23,7 @@ use Rattle.text_reader.proofs.expression.Kinds as expression-kinds
 use Rattle.text_reader.proofs.+arguments+expression.Lts-expression as expression-lts
 use Rattle.text_reader.proofs.literal_at.Reads as literal-at-reads
 use Rattle.text_reader.proofs.name_at.Reads as name-at-reads
-use Rattle.text_reader.proofs.put_head.Reads as put-head-reads
+use Rattle.record_out.proofs.put_head.Reads as put-head-reads
 use Rattle.tokens.proofs.due_at.Reads as due-at-reads
 use Rattle.tokens.proofs.head_at.Reads as head-at-reads
 use Rattle.text_reader.proofs.+arguments+expression.{statement}

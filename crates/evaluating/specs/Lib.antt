@@ -1,0 +1,2 @@
+-- Evaluating a stretch of an image.
+pub mod Stretch

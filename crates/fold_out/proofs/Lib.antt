@@ -1,0 +1,2 @@
+-- Laws of writing folded records.
+pub mod Writing

@@ -1,0 +1,2 @@
+-- A folded record in the output.
+pub mod Written

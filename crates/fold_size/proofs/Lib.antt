@@ -1,0 +1,2 @@
+-- Laws of sizing and writing.
+pub mod Sizing

@@ -1,0 +1,2 @@
+-- A record folded: its size, and its bytes.
+pub mod Folded

@@ -1,0 +1,1 @@
+// Folding read from the top: definitions and laws alone.

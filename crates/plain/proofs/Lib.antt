@@ -1,0 +1,3 @@
+-- Laws of the plain calls.
+pub mod Giving
+pub mod Compared

@@ -1,0 +1,3 @@
+-- Preparing and running joined.
+pub mod Demand
+pub mod Wrong

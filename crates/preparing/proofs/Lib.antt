@@ -1,0 +1,4 @@
+-- Laws of preparing.
+pub mod Giving
+pub mod Deciding
+pub mod Unique

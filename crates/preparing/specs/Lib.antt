@@ -1,0 +1,2 @@
+-- Preparing a text.
+pub mod Ended

@@ -1,0 +1,2 @@
+-- Bytes written into a buffer.
+pub mod Put

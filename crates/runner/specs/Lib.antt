@@ -1,0 +1,2 @@
+-- What a run stands on past its checks.
+pub mod Sound

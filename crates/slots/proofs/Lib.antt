@@ -1,0 +1,4 @@
+-- Laws of answers in slots.
+pub mod Settling
+pub mod Standing
+pub mod Unique

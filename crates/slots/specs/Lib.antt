@@ -1,0 +1,2 @@
+-- Answers in the work room.
+pub mod Slots

@@ -1,0 +1,2 @@
+-- How a record folds.
+pub mod Ways

@@ -1,0 +1,2 @@
+-- Laws of clearing the work room.
+pub mod Zeros
