@@ -2,18 +2,22 @@ use borrow.Author.Needs.{needs}
 use Prim.Native.Nat.{_+_, _-_, _≤_}
 use lib.ListN.{length}
 use mathlib.Core.Path.{_≡_}
-use Rattle.vectors.proofs.rows.number_at.Statement.{statement}
-use Rattle.vectors.proofs.rows.number_at.Tie as tie
-use Rattle.vectors.proofs.rows.number_at.Reads as reads
-use Rattle.vectors.proofs.rows.number_at.Lts as lts
+use Rattle.vectors.proofs.rows.number.Statement.{statement}
+use Rattle.vectors.proofs.rows.number.Tie as tie
+use Rattle.vectors.proofs.rows.number.Reads as reads
+use Rattle.vectors.proofs.rows.number.Lts as lts
 use Rattle.tokens.proofs.pair_at.Reads as pair-at-reads
+use Rattle.vectors.proofs.rows.field.Reads as field-reads
 use Rattle.vectors.proofs.rows.grown.Reads as grown-reads
 
 abbrev Inv-loop : tie.InvT-loop
-Inv-loop s p v₀ i₀ v i = i ≤ length s
+Inv-loop s n v₀ i₀ v i = i ≤ length s
 
 abbrev μ-loop : tie.MeasureT-loop
-μ-loop s p v₀ i₀ v i = length s - i
+μ-loop s n v₀ i₀ v i = length s - i
+
+field-requires : tie.Need-field-requires Inv-loop μ-loop
+field-requires c κs = search needs
 
 loop-holds : tie.Need-loop-holds Inv-loop μ-loop
 loop-holds c = search needs
@@ -42,12 +46,13 @@ loop-again c = search needs
 returns-2 : tie.Need-returns-2 Inv-loop μ-loop
 returns-2 c = search needs
 
-pub number-at-spec : {M : Type 1} → statement M
-number-at-spec =
+pub number-spec : {M : Type 1} → statement M
+number-spec =
     tie.close
     (tie.spec
     Inv-loop
     μ-loop
+    field-requires
     loop-holds
     sub-loop
     pair-at-requires

@@ -2,19 +2,23 @@ use borrow.Author.Needs.{needs}
 use Prim.Native.Nat.{_+_, _-_, _≤_}
 use lib.ListN.{length}
 use mathlib.Core.Path.{_≡_}
-use Rattle.vectors.proofs.rows.bytes_at.Statement.{statement}
-use Rattle.vectors.proofs.rows.bytes_at.Tie as tie
-use Rattle.vectors.proofs.rows.bytes_at.Reads as reads
-use Rattle.vectors.proofs.rows.bytes_at.Lts as lts
+use Rattle.vectors.proofs.rows.bytes_in.Statement.{statement}
+use Rattle.vectors.proofs.rows.bytes_in.Tie as tie
+use Rattle.vectors.proofs.rows.bytes_in.Reads as reads
+use Rattle.vectors.proofs.rows.bytes_in.Lts as lts
 use Rattle.tokens.proofs.pair_at.Reads as pair-at-reads
+use Rattle.vectors.proofs.rows.field.Reads as field-reads
 use Rattle.vectors.proofs.rows.put.Reads as put-reads
 use Rattle.vectors.proofs.rows.run_at.Reads as run-at-reads
 
 abbrev Inv-loop : tie.InvT-loop
-Inv-loop s p out₀ o i₀ at₀ out i at = (i ≤ length s) × (o ≤ at) × (at ≤ length out) × (length out ≡ length out₀)
+Inv-loop s n out₀ o i₀ at₀ out i at = (i ≤ length s) × (o ≤ at) × (at ≤ length out) × (length out ≡ length out₀)
 
 abbrev μ-loop : tie.MeasureT-loop
-μ-loop s p out₀ o i₀ at₀ out i at = length s - i
+μ-loop s n out₀ o i₀ at₀ out i at = length s - i
+
+field-requires : tie.Need-field-requires Inv-loop μ-loop
+field-requires c κs = search needs
 
 loop-holds : tie.Need-loop-holds Inv-loop μ-loop
 loop-holds c = search needs
@@ -52,12 +56,13 @@ same-length-2 c = search needs
 returns-2 : tie.Need-returns-2 Inv-loop μ-loop
 returns-2 c = search needs
 
-pub bytes-at-spec : {M : Type 1} → statement M
-bytes-at-spec =
+pub bytes-in-spec : {M : Type 1} → statement M
+bytes-in-spec =
     tie.close
     (tie.spec
     Inv-loop
     μ-loop
+    field-requires
     loop-holds
     sub-loop
     pair-at-requires
