@@ -1,5 +1,4 @@
 // A folded record written to the output, read from the top (document 01, section 5): constants, chosen sides, and what stays, in its place.
-ghost use mathlib.Core.Path.{_≡_};
 ghost use lib.ListN.{length};
 ghost use Rattle.ways.specs.Ways.{Ready};
 ghost use Rattle.fold_size.specs.Folded.{foldedAt, foldedPast, ReadyAll};

@@ -2,8 +2,7 @@
 use mathlib.Core.Path.{_≡_, refl, ap, sym, _∙_, subst}
 use mathlib.Core.Bool.{true}
 use mathlib.Core.List.{List, [], _∷_, _++_}
-use Prim.Native.Nat.{ℕ, zero, suc, _+_, _*_, _-_, _≤_, max}
-use native.Mathlib.Nat.{zero-add}
+use Prim.Native.Nat.{ℕ, zero, suc, _+_, _-_, _≤_}
 use native.Mathlib.Omega.{arith}
 use lib.ListN.{length, take, drop, length-append, length-take, length-drop}
 use lib.Seq.{length-take-le, take-length}
@@ -11,8 +10,6 @@ use Rattle.tree.specs.Tree.{Tree}
 use Rattle.tree.specs.Bounds.{Bytes}
 use Rattle.tree.specs.Names.{Binding}
 use Rattle.tree.specs.Values.{BindingValued}
-use Rattle.tree.proofs.Bytes.{bytes-take, bytes-drop}
-use Rattle.meaning.specs.Mean.{Calls}
 use Rattle.meaning.specs.Fold.{fold}
 use Rattle.meaning.specs.Values.{CallsValued}
 use Rattle.meaning.proofs.Plain.{real-valued}
@@ -23,7 +20,7 @@ use Rattle.records.specs.Record.{recordOf}
 use Rattle.records.specs.Decode.{decode}
 use Rattle.records.specs.Decode.Item.{item}
 use Rattle.records.proofs.There.{length-record}
-use Rattle.records.proofs.Sizes.{Counted, decode-counted}
+use Rattle.records.proofs.Sizes.{decode-counted}
 use Rattle.lists.specs.Entries.{Entry, preparing, listOf}
 use Rattle.lists.specs.Entries.Listed.{listed}
 use Rattle.lists.proofs.Values.{binding-valued}
@@ -33,10 +30,10 @@ use Rattle.kinds.specs.Tables.{tablesOf}
 use Rattle.lent.specs.Lent.{Lent}
 use Rattle.folding.specs.TopDown.{foldedAll}
 use Rattle.folding.specs.Parts.{Parts}
-use Rattle.folding.specs.Folded.{foldedOf, foldedFrom}
+use Rattle.folding.specs.Folded.{foldedFrom}
 use Rattle.folding.proofs.Folded.{folded-is, from-none, from-more, from-parts, parts-most, part-within}
 use Rattle.folding.proofs.Sizes.{decoded-most}
-use Rattle.folding.proofs.Parts.{Held, head-held, head-there}
+use Rattle.folding.proofs.Parts.{head-held, head-there}
 use Rattle.ways.specs.declared.Way.{Way}
 use Rattle.ways.specs.declared.Way.the-variants.{Constant, Side, Leaf, Call}
 use Rattle.ways.specs.Ways.{theCalls, boundBy, tablesAll, Rooms, Ready, AConstant, ASide, ALeaf, ACall, Goes, GoesSo}

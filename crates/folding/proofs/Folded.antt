@@ -1,8 +1,8 @@
 -- Records folded one after another, from a place of the payload on.
-use mathlib.Core.Path.{_≡_, refl, ap, sym, _∙_}
+use mathlib.Core.Path.{_≡_, refl, ap, _∙_}
 use mathlib.Core.Bool.{Bool}
 use mathlib.Core.List.{List, [], _∷_, _++_}
-use Prim.Native.Nat.{ℕ, zero, suc, _+_, _*_, _-_, _≤_}
+use Prim.Native.Nat.{ℕ, suc, _+_, _*_, _-_, _≤_}
 use native.Mathlib.Omega.{arith}
 use lib.ListN.{length, drop, length-append, length-drop}
 use Rattle.tree.specs.Tree.{Tree}
@@ -15,8 +15,8 @@ use Rattle.meaning.specs.Fold.{fold}
 use Rattle.meaning.specs.Values.{CallsValued}
 use Rattle.records.specs.Encode.{encode}
 use Rattle.records.specs.Decode.{Item, decode}
-use Rattle.records.specs.Decode.Item.{item, noItem}
-use Rattle.records.proofs.Sizes.{Counted, decode-counted}
+use Rattle.records.specs.Decode.Item.{item}
+use Rattle.records.proofs.Sizes.{decode-counted}
 use Rattle.folding.specs.TopDown.{foldedAll}
 use Rattle.folding.specs.Parts.{Parts}
 use Rattle.folding.specs.Folded.{foldedOf, thenFolded, foldedFrom}

@@ -1,6 +1,5 @@
 -- A preparing list gives nothing to `$` and `@`: with it a tree means what it means with only `#` bound.
-use mathlib.Core.Path.{_≡_, refl, ap, ap₂, sym, _∙_}
-use mathlib.Core.Bool.{Bool}
+use mathlib.Core.Path.{_≡_, refl, ap, ap₂, _∙_}
 use mathlib.Core.List.{List}
 use Prim.Native.Nat.{ℕ}
 use Rattle.common.specs.Answer.{Value, Answer, then}

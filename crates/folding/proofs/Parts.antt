@@ -4,7 +4,6 @@ use mathlib.Core.Bool.{Bool}
 use mathlib.Core.List.{List, [], _∷_}
 use Prim.Native.Nat.{ℕ, zero, suc, _+_, _-_, _≤_, _<_}
 use native.Mathlib.Nat.{zero-add}
-use native.Mathlib.Numerals.{sub-one}
 use native.Mathlib.Omega.{arith}
 use lib.Dec.{eqb, leb, ltb}
 use lib.ListN.{length, getD, drop}
@@ -12,7 +11,7 @@ use borrow.Author.Tests.{eqb-true}
 use Rattle.common.specs.Choice.{pick}
 use Rattle.tree.specs.Tree.{Tree}
 use Rattle.tree.specs.Tree.Tree.{literal, bound, row, run, one, two, three, four, when}
-use Rattle.tree.specs.Bounds.{argumentsOf, whenKind}
+use Rattle.tree.specs.Bounds.{argumentsOf}
 use Rattle.tree.proofs.Table.{when-arguments}
 use Rattle.records.specs.Record.{frontOf}
 use Rattle.records.specs.Record.Front.{front, cut}
@@ -22,7 +21,7 @@ use Rattle.records.specs.Decode.Item.{item}
 use Rattle.records.specs.Encode.{constantKind, rowKind, runKind, boundKind}
 use Rattle.records.proofs.Shapes.{Says, shape-says}
 use Rattle.records.proofs.Back.{no-item, pick-item}
-use Rattle.records.proofs.Descend.{OnePart, TwoParts, ThreeParts, FourParts, one-part, two-parts, three-parts, four-parts, opened}
+use Rattle.records.proofs.Descend.{one-part, two-parts, three-parts, four-parts, opened}
 use Rattle.kinds.proofs.Quick.{low-none}
 use Rattle.heads.specs.declared.Head.the-variants.{Record, Cut}
 use Rattle.heads.specs.Head.{headAt}

@@ -1,7 +1,7 @@
 -- Folding read from the top is folding; and what a record folds to, by the answers of its meaning with only `#` bound.
 use mathlib.Core.Path.{_≡_, refl, ap, ap₂, sym, _∙_}
 use mathlib.Core.List.{List, [], _∷_, _++_}
-use Prim.Native.Nat.{ℕ, zero}
+use Prim.Native.Nat.{ℕ}
 use native.Mathlib.Omega.{arith}
 use Rattle.common.specs.Answer.{Value, Answer}
 use Rattle.common.specs.Answer.Answer.{value, refused}
@@ -14,7 +14,7 @@ use Rattle.meaning.specs.Mean.{Calls, named, Side, sideOf, mean}
 use Rattle.meaning.specs.Mean.Side.{first, second, neither}
 use Rattle.meaning.specs.Fold.{orStays, sideOr, fold}
 use Rattle.meaning.specs.Folded.{NoValue}
-use Rattle.meaning.proofs.Binds.{no-value, same-value}
+use Rattle.meaning.proofs.Binds.{no-value}
 use Rattle.meaning.proofs.Constants.{value-folds}
 use Rattle.meaning.proofs.TopDown as down
 use Rattle.records.specs.Record.{recordOf}

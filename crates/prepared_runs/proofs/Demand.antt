@@ -1,8 +1,7 @@
 -- Demand 3 of the code: whatever `prepare` wrote, `run` on it answers what the text means with both lists. By the statements of the two functions alone.
-use mathlib.Core.Path.{_≡_, refl, ap, ap₂, sym, _∙_, subst}
+use mathlib.Core.Path.{_≡_, ap, ap₂, sym, _∙_, subst}
 use mathlib.Core.List.{List}
 use Prim.Native.Nat.{ℕ, _≤_}
-use native.Mathlib.Omega.{arith}
 use lib.ListN.{length, take}
 use Rattle.common.specs.Answer.{deliver}
 use Rattle.tree.specs.Tree.{Tree}

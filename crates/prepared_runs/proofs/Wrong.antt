@@ -1,12 +1,10 @@
 -- Wrong preparers (document 01, section 9) fail the statement of `prepare` at these inputs.
-use mathlib.Core.Path.{_≡_, refl, ap, sym, _∙_}
+use mathlib.Core.Path.{_≡_, refl, ap, _∙_}
 use mathlib.Core.List.{List, [], _∷_, _++_}
 use Prim.Native.Nat.{ℕ, _≤_}
 use native.Mathlib.Omega.{arith}
-use lib.Dec.{leb, ltb}
 use lib.ListN.{length, getD, drop}
 use borrow.Author.Tests.{le-leb, le-ltb}
-use Rattle.common.specs.Choice.{pick}
 use Rattle.common.specs.Answer.{deliver}
 use Rattle.modes.specs.Cell.{cellOf}
 use Rattle.records.proofs.Shapes.{pick-true, pick-false}
@@ -18,7 +16,7 @@ use Rattle.recipe.proofs.Points.{p8}
 use Rattle.recipe.proofs.Computing.{prepares}
 use Rattle.preparing.specs.declared.Ended.{Ended}
 use Rattle.preparing.specs.declared.Ended.the-variants.{Done, Refused}
-use Rattle.preparing.specs.Ended.{numberOf, countOf, outcomeOf}
+use Rattle.preparing.specs.Ended.{countOf, outcomeOf}
 
 -- an image that fits the output, in a work room that is large enough
 made-outcome : (s list out work v : List ℕ) → preparedOf cellOf s list ≡ made v → 65536 ≤ length work → length v ≤ length out

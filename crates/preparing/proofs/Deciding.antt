@@ -2,13 +2,11 @@
 use mathlib.Core.Path.{_≡_, refl, ap, sym, _∙_, subst}
 use mathlib.Core.Bool.{Bool, true, false}
 use mathlib.Core.List.{List, _++_}
-use Prim.Native.Nat.{ℕ, _+_, _*_, _≤_, _<_}
+use Prim.Native.Nat.{ℕ, _+_, _≤_, _<_}
 use native.Mathlib.Omega.{arith}
-use lib.Dec.{leb}
 use lib.ListN.{length, take, drop, length-append}
 use lib.Seq.{take-at}
 use borrow.Author.Tests.{le-leb, lt-leb}
-use Rattle.common.specs.Choice.{pick}
 use Rattle.tree.specs.Tree.{Tree}
 use Rattle.tree.specs.Bounds.{Bytes, Within}
 use Rattle.tree.specs.Names.{Binding}
@@ -23,9 +21,9 @@ use Rattle.records.specs.Decode.Image.{image}
 use Rattle.records.specs.Decode.Item.{item}
 use Rattle.records.proofs.Shapes.{pick-true, pick-false}
 use Rattle.records.proofs.There.{image-encode}
-use Rattle.lists.specs.Entries.{Entry, Listed, boundList, preparing, listOf}
+use Rattle.lists.specs.Entries.{Entry, Listed, preparing, listOf}
 use Rattle.lists.specs.Entries.Listed.{listed, badList}
-use Rattle.lists.specs.Given.{valueOf, bindingOf}
+use Rattle.lists.specs.Given.{bindingOf}
 use Rattle.listing.specs.Walk.{takenIn, isGood}
 use Rattle.listing.specs.Find.{findIn, stretchOf}
 use Rattle.listing.specs.declared.Found.{Found}
@@ -52,17 +50,14 @@ use Rattle.unbound.specs.declared.Place.the-variants.{At, Nowhere}
 use Rattle.unbound.specs.Scan.{placeIs, hasOf}
 use Rattle.unbound.proofs.Bindings.{scan-of-list}
 use Rattle.recipe.specs.Prepare.{Prepared, sized, isGiven, has, afterScan, afterList, afterRead, preparedOf}
-use Rattle.recipe.specs.Prepare.Prepared.{made, stopped}
-use Rattle.folding.specs.Folded.{foldedOf}
+use Rattle.recipe.specs.Prepare.Prepared.{stopped}
 use Rattle.folding.proofs.Folded.{folded-is}
 use Rattle.folding.proofs.TopDown.{append-none}
 use Rattle.ways.specs.Ways.{theCalls, boundBy}
 use Rattle.ways.proofs.Evaluated.{encode-decodes, bound-by}
 use Rattle.fold_size.specs.Folded.{foldedAt}
 use Rattle.preparing.specs.declared.Ended.{Ended}
-use Rattle.preparing.specs.declared.Ended.the-variants.{Done, Refused}
 use Rattle.preparing.specs.Ended.{Gives, Folding, WasRead}
-use Rattle.preparing.proofs.Giving.{stops}
 
 true-false : true ≡ false → ⊥
 true-false e = let z : _≡_ {A = ℕ} 0 1 = cc in omega arith

@@ -1,17 +1,14 @@
 -- How preparing ends, case by case.
-use mathlib.Core.Path.{_≡_, refl, ap, ap₂, sym, _∙_, subst}
-use mathlib.Core.Bool.{Bool, true, false}
+use mathlib.Core.Path.{_≡_, ap, ap₂, sym, _∙_}
 use mathlib.Core.List.{List, _++_}
 use Prim.Native.Nat.{ℕ, _+_, _≤_, _<_}
 use native.Mathlib.Nat.{zero-add}
 use native.Mathlib.Omega.{arith}
-use lib.Dec.{leb, ltb}
-use lib.ListN.{length, take, drop}
+use lib.ListN.{length, drop}
 use lib.Seq.{drop-at}
 use borrow.Author.Tests.{le-leb, lt-leb, le-ltb, lt-ltb}
 use Rattle.common.specs.Choice.{pick}
-use Rattle.common.specs.Answer.{Delivered, deliver, refusal}
-use Rattle.tree.specs.Bounds.{Bytes}
+use Rattle.common.specs.Answer.{deliver, refusal}
 use Rattle.records.proofs.Shapes.{pick-true, pick-false}
 use Rattle.kinds.specs.Tables.{tablesOf}
 use Rattle.substitutions.specs.Tables.{substitutions, unsubstitutions}
@@ -25,7 +22,6 @@ use Rattle.recipe.specs.Prepare.Prepared.{made, stopped}
 use Rattle.meaning.specs.Real.{Cipher}
 use Rattle.ways.specs.Ways.{Ready}
 use Rattle.ways.proofs.Taken.{rooms-longer}
-use Rattle.fold_size.specs.Folded.{foldedAt}
 use Rattle.fold_size.proofs.Sizing.{lent-less}
 use Rattle.fold_out.specs.Written.{Fitting, Written}
 use Rattle.work_room.proofs.Zeros.{zeroed-same}

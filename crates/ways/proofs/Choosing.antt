@@ -2,27 +2,24 @@
 use mathlib.Core.Path.{_≡_, refl, ap, sym, _∙_, subst}
 use mathlib.Core.Bool.{true}
 use mathlib.Core.List.{List, [], _∷_, _++_, append-assoc}
-use Prim.Native.Nat.{ℕ, zero, suc, _+_, _-_, _≤_, max}
+use Prim.Native.Nat.{ℕ, _+_, _-_, _≤_}
 use native.Mathlib.Omega.{arith}
 use lib.Dec.{eqb}
 use lib.ListN.{length, take, drop, getD, length-append, length-drop}
 use lib.Seq.{take-at, drop-at, drop-drop, length-take-le}
 use borrow.Author.Tests.{eq-eqb, ne-eqb}
 use Rattle.common.specs.Choice.{pick}
-use Rattle.common.specs.Answer.{Value, Answer}
-use Rattle.common.specs.Answer.Answer.{value, refused}
+use Rattle.common.specs.Answer.Answer.{value}
 use Rattle.tree.specs.Tree.{Tree}
 use Rattle.tree.specs.Tree.Tree.{when}
-use Rattle.tree.specs.Bounds.{argumentsOf, whenKind, depth, nodes, Bytes, Proper, Small}
+use Rattle.tree.specs.Bounds.{whenKind, depth, Bytes, Proper, Small}
 use Rattle.tree.specs.Names.{Binding, idle}
 use Rattle.tree.proofs.Table.{when-arguments}
 use Rattle.meaning.specs.Mean.{mean, Side, sideOf}
 use Rattle.meaning.specs.Mean.Side.{first, second, neither}
-use Rattle.meaning.specs.Fold.{fold}
-use Rattle.meaning.specs.Folded.{NoValue}
 use Rattle.meaning.proofs.Within.{one-node}
 use Rattle.records.specs.Record.{recordOf, frontOf}
-use Rattle.records.specs.Record.Front.{front, cut}
+use Rattle.records.specs.Record.Front.{front}
 use Rattle.records.specs.Encode.{encode}
 use Rattle.records.specs.Decode.{decode}
 use Rattle.records.specs.Decode.Item.{item}
@@ -44,7 +41,7 @@ use Rattle.folding.proofs.TopDown.{append-none, Open, first-side, second-side}
 use Rattle.folding.proofs.Parts.{Held, decoded-held, head-there}
 use Rattle.ways.specs.declared.Way.{Way}
 use Rattle.ways.specs.declared.Way.the-variants as way
-use Rattle.ways.specs.Ways.{theCalls, boundBy, Rooms, ASide, ACall, Goes, GoesSo, Choosing, sideNumber}
+use Rattle.ways.specs.Ways.{theCalls, boundBy, ACall, Goes, GoesSo, Choosing, sideNumber}
 use Rattle.ways.proofs.Evaluated.{encode-decodes, answer-of, eval-ready, first-deep, first-proper, first-small, first-within}
 use Rattle.ways.proofs.Staying.{as-call}
 

@@ -1,31 +1,29 @@
 -- A record that was decoded, as the evaluator takes it, and what the evaluator tells of it.
-use mathlib.Core.Path.{_≡_, refl, ap, sym, _∙_, subst}
-use mathlib.Core.Bool.{Bool, true, false}
+use mathlib.Core.Path.{_≡_, ap, sym, _∙_, subst}
+use mathlib.Core.Bool.{true, false}
 use mathlib.Core.List.{List, [], _∷_, _++_}
-use Prim.Native.Nat.{ℕ, zero, suc, _+_, _-_, _*_, _≤_}
+use Prim.Native.Nat.{ℕ, _+_, _-_, _≤_}
 use native.Mathlib.Omega.{arith}
 use lib.ListN.{length, take, drop}
 use lib.Seq.{take-at}
-use Rattle.common.specs.Answer.{Value, Answer}
-use Rattle.common.specs.Answer.Answer.{value, refused}
+use Rattle.common.specs.Answer.Answer.{value}
 use Rattle.tree.specs.Tree.{Tree}
 use Rattle.tree.specs.Bounds.{depth, Bytes, Proper, Small}
-use Rattle.tree.specs.Names.{Binding, idle}
+use Rattle.tree.specs.Names.{idle}
 use Rattle.tree.proofs.Bytes.{bytes-drop}
-use Rattle.meaning.specs.Mean.{Calls, mean}
+use Rattle.meaning.specs.Mean.{mean}
 use Rattle.meaning.specs.Real.{real}
-use Rattle.meaning.specs.Fold.{fold}
 use Rattle.meaning.specs.Folded.{NoValue}
 use Rattle.modes.specs.Cell.{cellOf}
-use Rattle.records.specs.Encode.{constantKind, encode}
+use Rattle.records.specs.Encode.{encode}
 use Rattle.records.specs.Decode.{decode}
 use Rattle.records.specs.Decode.Item.{item}
 use Rattle.records.proofs.There.{decode-encode}
 use Rattle.records.proofs.Back.{decode-back}
-use Rattle.records.proofs.Sizes.{Counted, decode-counted}
+use Rattle.records.proofs.Sizes.{decode-counted}
 use Rattle.lists.specs.Entries.{Entry, preparing, listOf}
 use Rattle.lists.specs.Entries.Listed.{listed}
-use Rattle.lists.specs.Given.{bindingOf, runningOf}
+use Rattle.lists.specs.Given.{bindingOf}
 use Rattle.kinds.specs.Tables.{tablesOf}
 use Rattle.heads.specs.declared.Head.the-variants.{Record, Cut}
 use Rattle.heads.specs.Head.{headAt}
@@ -38,7 +36,7 @@ use Rattle.evaluating.specs.Stretch.{Stretch, Means}
 use Rattle.folding.specs.Parts.{Parts}
 use Rattle.folding.proofs.TopDown.{refusal-none, constant-bytes}
 use Rattle.folding.proofs.Idle.{prepared-idle}
-use Rattle.folding.proofs.Parts.{Held, head-held, head-there}
+use Rattle.folding.proofs.Parts.{head-held, head-there}
 use Rattle.ways.specs.Ways.{theCalls, boundIn, boundBy, Rooms, Ready, AConstant}
 
 true-false : true ≡ false → ⊥

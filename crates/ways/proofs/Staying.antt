@@ -1,7 +1,7 @@
 -- A record without a value: a leaf, a `when`, or another call that stays.
 use mathlib.Core.Path.{_≡_, refl, ap, sym, _∙_, subst}
-use mathlib.Core.Bool.{Bool, true, false}
-use mathlib.Core.List.{List, [], _∷_, _++_}
+use mathlib.Core.Bool.{true}
+use mathlib.Core.List.{List, [], _∷_}
 use Prim.Native.Nat.{ℕ, zero, suc, _+_, _-_, _≤_, _<_, max}
 use native.Mathlib.Omega.{arith}
 use lib.ListN.{length, take, drop}
@@ -12,22 +12,21 @@ use Rattle.tree.specs.Names.{Binding, idle}
 use Rattle.tree.proofs.Table.{call-kind, when-arguments}
 use Rattle.tree.proofs.Bytes.{bytes-take, bytes-drop}
 use Rattle.meaning.specs.Mean.{mean}
-use Rattle.meaning.specs.Fold.{fold}
 use Rattle.meaning.specs.Folded.{NoValue}
 use Rattle.records.specs.Record.{recordOf}
 use Rattle.records.specs.Encode.{encode}
 use Rattle.records.specs.Decode.{decode}
 use Rattle.records.specs.Decode.Item.{item}
 use Rattle.kinds.specs.Tables.{tablesFor, tablesOf}
-use Rattle.heads.specs.declared.Head.the-variants.{Record, Cut}
+use Rattle.heads.specs.declared.Head.the-variants.{Record}
 use Rattle.heads.specs.Head.{headAt}
 use Rattle.heads.proofs.Heads.{Stands, head-stands}
 use Rattle.folding.specs.TopDown.{arguments, kindOf, foldedAll}
 use Rattle.folding.specs.Parts.{Parts}
 use Rattle.folding.proofs.TopDown.{leaf-stays, Open, call-bytes}
 use Rattle.folding.proofs.Parts.{Held, decoded-held}
-use Rattle.ways.specs.Ways.{theCalls, boundBy, tablesAll, ALeaf, ACall}
-use Rattle.ways.proofs.Evaluated.{first-is, first-within, first-proper, parts-more}
+use Rattle.ways.specs.Ways.{theCalls, tablesAll, ALeaf, ACall}
+use Rattle.ways.proofs.Evaluated.{first-is, first-within, parts-more}
 
 -- no arguments
 none-of : (ts : List Tree) → length ts ≡ 0 → ts ≡ []

@@ -1,16 +1,13 @@
 -- The way that a record takes, by what the evaluator tells of it.
-use mathlib.Core.Path.{_≡_, refl, ap, sym, _∙_, subst}
-use mathlib.Core.Bool.{true}
+use mathlib.Core.Path.{_≡_, ap, sym, _∙_, subst}
 use mathlib.Core.List.{List}
 use Prim.Native.Nat.{ℕ, _+_, _≤_}
 use native.Mathlib.Omega.{arith}
-use Rattle.tree.specs.Tree.{Tree}
 use Rattle.tree.specs.Tree.Tree.{when}
 use Rattle.tree.specs.Bounds.{argumentsOf, whenKind, Bytes}
 use Rattle.tree.specs.Names.{idle}
 use Rattle.meaning.specs.Mean.{mean}
 use Rattle.meaning.specs.Folded.{NoValue}
-use Rattle.records.specs.Decode.{decode}
 use Rattle.records.specs.Decode.Item.{item}
 use Rattle.kinds.specs.Tables.{tablesOf}
 use Rattle.heads.specs.declared.Head.the-variants.{Record}

@@ -1,10 +1,8 @@
 -- A room cleared byte by byte.
 use mathlib.Core.List.{List, _++_}
-use mathlib.Core.Path.{_≡_, refl, ap, sym, _∙_}
-use Prim.Native.Nat.{ℕ, _+_, _≤_, _<_}
-use native.Mathlib.Omega.{arith}
+use mathlib.Core.Path.{_≡_, refl, ap, _∙_}
+use Prim.Native.Nat.{ℕ, _+_, _<_}
 use lib.ListN.{length, drop, set, replicate, length-set}
-use lib.Seq.{drop-at}
 use borrow.Author.Fill.{fill-none, fill-more}
 use Rattle.recipe.specs.Outcome.{zeroed}
 

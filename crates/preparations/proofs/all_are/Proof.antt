@@ -1,12 +1,8 @@
 use Prim.Native.Nat.{_≤_, _-_}
 use lib.ListN.{length}
-use mathlib.Core.Path.{_≡_}
-use native.Mathlib.Omega.{arith}
 use borrow.Author.Needs.{needs}
 use Rattle.preparations.proofs.all_are.Statement.{statement}
 use Rattle.preparations.proofs.all_are.Tie as tie
-use Rattle.preparations.proofs.all_are.Reads as reads
-use Rattle.preparations.proofs.all_are.Lts as lts
 
 abbrev Inv-loop : tie.InvT-loop
 Inv-loop s b i₀ i = i ≤ length s

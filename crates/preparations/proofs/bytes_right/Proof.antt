@@ -5,10 +5,6 @@ use lib.Seq.{length-take-le}
 use borrow.Author.Needs.{needs}
 use Rattle.preparations.proofs.bytes_right.Statement.{statement}
 use Rattle.preparations.proofs.bytes_right.Tie as tie
-use Rattle.preparations.proofs.bytes_right.Reads as reads
-use Rattle.preparations.proofs.bytes_right.Lts as lts
-use Rattle.check.proofs.same.Reads as same-reads
-use Rattle.preparations.proofs.all_are.Reads as all-are-reads
 
 -- src/main.rt:217:9
 returns : tie.Need-returns

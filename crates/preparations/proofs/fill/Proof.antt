@@ -5,8 +5,6 @@ use native.Mathlib.Omega.{arith}
 use borrow.Author.Needs.{needs}
 use Rattle.preparations.proofs.fill.Statement.{statement}
 use Rattle.preparations.proofs.fill.Tie as tie
-use Rattle.preparations.proofs.fill.Reads as reads
-use Rattle.preparations.proofs.fill.Lts as lts
 
 abbrev Inv-loop : tie.InvT-loop
 Inv-loop s₀ b i₀ s i = (i ≤ length s) × (length s ≡ length s₀)

@@ -1,13 +1,9 @@
 use mathlib.Core.Path.{sym}
 use native.Mathlib.Omega.{arith}
-use lib.ListN.{length}
 use lib.Seq.{length-take-le}
 use borrow.Author.Needs.{needs}
 use Rattle.preparations.proofs.room_right.Statement.{statement}
 use Rattle.preparations.proofs.room_right.Tie as tie
-use Rattle.preparations.proofs.room_right.Reads as reads
-use Rattle.preparations.proofs.room_right.Lts as lts
-use Rattle.preparations.proofs.all_are.Reads as all-are-reads
 
 -- src/main.rt:206:9
 all-are-requires : tie.Need-all-are-requires

@@ -1,15 +1,8 @@
 use mathlib.Core.Path.{sym}
-use native.Mathlib.Omega.{arith}
-use lib.ListN.{length}
 use lib.Seq.{length-take-le}
 use borrow.Author.Needs.{needs}
 use Rattle.preparations.proofs.row_of.Statement.{statement}
 use Rattle.preparations.proofs.row_of.Tie as tie
-use Rattle.preparations.proofs.row_of.Reads as reads
-use Rattle.preparations.proofs.row_of.Lts as lts
-use Rattle.preparations.proofs.least.Reads as least-reads
-use Rattle.preparations.proofs.prepare_row.Reads as prepare-row-reads
-use Rattle.preparations.proofs.run_row.Reads as run-row-reads
 
 -- src/main.rt:380:9
 returns : tie.Need-returns

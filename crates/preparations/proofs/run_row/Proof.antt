@@ -1,18 +1,8 @@
 use mathlib.Core.Path.{sym}
-use native.Mathlib.Omega.{arith}
-use lib.ListN.{length}
 use lib.Seq.{length-take-le}
 use borrow.Author.Needs.{needs}
 use Rattle.preparations.proofs.run_row.Statement.{statement}
 use Rattle.preparations.proofs.run_row.Tie as tie
-use Rattle.preparations.proofs.run_row.Reads as reads
-use Rattle.preparations.proofs.run_row.Lts as lts
-use Rattle.preparations.proofs.end_of.Reads as end-of-reads
-use Rattle.preparations.proofs.field.Reads as field-reads
-use Rattle.preparations.proofs.figure_at.Reads as figure-at-reads
-use Rattle.preparations.proofs.least.Reads as least-reads
-use Rattle.preparations.proofs.ran.Reads as ran-reads
-use Rattle.preparations.proofs.up_to.Reads as up-to-reads
 
 -- src/main.rt:345:9
 figure-at-requires : tie.Need-figure-at-requires

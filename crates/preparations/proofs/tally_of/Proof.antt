@@ -1,15 +1,9 @@
 use Prim.Native.Nat.{_+_, _≤_, _-_}
 use mathlib.Core.Path.{_≡_}
-use native.Mathlib.Omega.{arith}
 use lib.ListN.{length}
 use borrow.Author.Needs.{needs}
 use Rattle.preparations.proofs.tally_of.Statement.{statement}
 use Rattle.preparations.proofs.tally_of.Tie as tie
-use Rattle.preparations.proofs.tally_of.Reads as reads
-use Rattle.preparations.proofs.tally_of.Lts as lts
-use Rattle.preparations.proofs.row_of.Reads as row-of-reads
-use Rattle.preparations.proofs.tell.Reads as tell-reads
-use Rattle.preparations.proofs.up_to.Reads as up-to-reads
 
 abbrev Inv-loop : tie.InvT-loop
 Inv-loop s out₀ value₀ work₀ rows₀ good₀ size₀ p₀ out value work rows good size p = (rows ≤ p) × (good ≤ rows) × (p ≤ length s + 1) × (length out ≡ length out₀) × (length value ≡ length value₀) × (length work ≡ length work₀)

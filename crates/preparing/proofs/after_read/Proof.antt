@@ -10,13 +10,6 @@ use Rattle.preparing.proofs.Deciding.{bad-list, absent-name, all-bound,
 use borrow.Author.Needs.{needs}
 use Rattle.preparing.proofs.after_read.Statement.{statement}
 use Rattle.preparing.proofs.after_read.Tie as tie
-use Rattle.preparing.proofs.after_read.Reads as reads
-use Rattle.preparing.proofs.after_read.Lts as lts
-use Rattle.image_check.proofs.check.Reads as check-reads
-use Rattle.listing.proofs.good.Reads as good-reads
-use Rattle.preparing.proofs.has_value.Reads as has-value-reads
-use Rattle.preparing.proofs.with_tables.Reads as with-tables-reads
-use Rattle.unbound.proofs.first_unbound.Reads as first-unbound-reads
 
 -- src/lib.rt:98:8
 good-requires : tie.Need-good-requires

@@ -1,6 +1,5 @@
 use mathlib.Core.Path.{sym, _∙_}
 use native.Mathlib.Omega.{arith}
-use lib.ListN.{length}
 use lib.Seq.{length-take-le}
 use Rattle.modes.specs.Cell.{cellOf}
 use Rattle.texts.specs.Reading.{readText}
@@ -10,10 +9,6 @@ use Rattle.preparing.proofs.Deciding.{long-text, fair-text, was-wrong, 
 use borrow.Author.Needs.{needs}
 use Rattle.preparing.proofs.decide.Statement.{statement}
 use Rattle.preparing.proofs.decide.Tie as tie
-use Rattle.preparing.proofs.decide.Reads as reads
-use Rattle.preparing.proofs.decide.Lts as lts
-use Rattle.preparing.proofs.after_read.Reads as after-read-reads
-use Rattle.text_reader.proofs.read.Reads as read-reads
 
 -- src/lib.rt:120:9
 returns : tie.Need-returns

@@ -4,10 +4,6 @@ use Rattle.preparing.proofs.Giving.{ready-longer, gives-long, gives-roo
 use borrow.Author.Needs.{needs}
 use Rattle.preparing.proofs.fold_in.Statement.{statement}
 use Rattle.preparing.proofs.fold_in.Tie as tie
-use Rattle.preparing.proofs.fold_in.Reads as reads
-use Rattle.preparing.proofs.fold_in.Lts as lts
-use Rattle.fold_out.proofs.write.Reads as write-reads
-use Rattle.fold_size.proofs.size.Reads as size-reads
 
 -- src/lib.rt:39:9
 size-requires : tie.Need-size-requires

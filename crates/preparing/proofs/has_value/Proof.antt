@@ -3,9 +3,6 @@ use Rattle.preparing.proofs.Deciding.{found-some, found-none}
 use borrow.Author.Needs.{needs}
 use Rattle.preparing.proofs.has_value.Statement.{statement}
 use Rattle.preparing.proofs.has_value.Tie as tie
-use Rattle.preparing.proofs.has_value.Reads as reads
-use Rattle.preparing.proofs.has_value.Lts as lts
-use Rattle.listing.proofs.find.Reads as find-reads
 
 -- src/lib.rt:81:31
 add-find : tie.Need-add-find

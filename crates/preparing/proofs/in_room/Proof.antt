@@ -7,10 +7,6 @@ use lib.Seq.{length-take-le}
 use borrow.Author.Needs.{needs}
 use Rattle.preparing.proofs.in_room.Statement.{statement}
 use Rattle.preparing.proofs.in_room.Tie as tie
-use Rattle.preparing.proofs.in_room.Reads as reads
-use Rattle.preparing.proofs.in_room.Lts as lts
-use Rattle.preparing.proofs.decide.Reads as decide-reads
-use Rattle.work_room.proofs.clear.Reads as clear-reads
 
 -- src/lib.rt:134:37
 slice-relend-prefix-decide : tie.Need-slice-relend-prefix-decide

@@ -3,9 +3,6 @@ use Rattle.preparing.proofs.Giving.{short-room, whole-room}
 use borrow.Author.Needs.{needs}
 use Rattle.preparing.proofs.prepare.Statement.{statement}
 use Rattle.preparing.proofs.prepare.Tie as tie
-use Rattle.preparing.proofs.prepare.Reads as reads
-use Rattle.preparing.proofs.prepare.Lts as lts
-use Rattle.preparing.proofs.in_room.Reads as in-room-reads
 
 -- src/lib.rt:144:9
 returns : tie.Need-returns

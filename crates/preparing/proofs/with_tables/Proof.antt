@@ -2,13 +2,6 @@ use Rattle.preparing.proofs.Giving.{lent-ready, lent-none, lent-seal, l
 use borrow.Author.Needs.{needs}
 use Rattle.preparing.proofs.with_tables.Statement.{statement}
 use Rattle.preparing.proofs.with_tables.Tie as tie
-use Rattle.preparing.proofs.with_tables.Reads as reads
-use Rattle.preparing.proofs.with_tables.Lts as lts
-use Rattle.open_table.proofs.table.Reads as table-reads
-use Rattle.preparing.proofs.fold_in.Reads as fold-in-reads
-use Rattle.seal_table.proofs.table.Reads as table-reads′
-use Rattle.substitutions.proofs.backward.Reads as backward-reads
-use Rattle.substitutions.proofs.forward.Reads as forward-reads
 
 -- src/lib.rt:64:13
 fold-in-requires : tie.Need-fold-in-requires

@@ -5,10 +5,6 @@ use Rattle.record_out.proofs.Put.{head-before}
 use borrow.Author.Needs.{needs}
 use Rattle.record_out.proofs.put_record.Statement.{statement}
 use Rattle.record_out.proofs.put_record.Tie as tie
-use Rattle.record_out.proofs.put_record.Reads as reads
-use Rattle.record_out.proofs.put_record.Lts as lts
-use Rattle.handing.proofs.put.Reads as put-reads
-use Rattle.record_out.proofs.put_head.Reads as put-head-reads
 
 -- src/lib.rt:34:23
 add-put : tie.Need-add-put

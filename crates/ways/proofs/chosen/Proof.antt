@@ -1,10 +1,7 @@
 use native.Mathlib.Omega.{arith}
 use Rattle.ways.proofs.Choosing.{chosen-first, chosen-second, chosen-neither, chosen-none}
-use borrow.Author.Needs.{needs}
 use Rattle.ways.proofs.chosen.Statement.{statement}
 use Rattle.ways.proofs.chosen.Tie as tie
-use Rattle.ways.proofs.chosen.Reads as reads
-use Rattle.ways.proofs.chosen.Lts as lts
 
 -- src/lib.rt:24:17
 shared-slice-read-b : tie.Need-shared-slice-read-b

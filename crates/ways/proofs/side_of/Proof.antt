@@ -5,11 +5,6 @@ use Rattle.ways.proofs.Choosing.{condition-there, yes-within, yes-there
 use borrow.Author.Needs.{needs}
 use Rattle.ways.proofs.side_of.Statement.{statement}
 use Rattle.ways.proofs.side_of.Tie as tie
-use Rattle.ways.proofs.side_of.Reads as reads
-use Rattle.ways.proofs.side_of.Lts as lts
-use Rattle.evaluating.proofs.eval.Reads as eval-reads
-use Rattle.heads.proofs.head_at.Reads as head-at-reads
-use Rattle.ways.proofs.chosen.Reads as chosen-reads
 
 -- src/lib.rt:50:30
 head-at-requires : tie.Need-head-at-requires

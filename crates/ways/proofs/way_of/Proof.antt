@@ -6,12 +6,6 @@ use Rattle.ways.proofs.Taken.{taken-constant, taken-leaf, taken-call, t
 use borrow.Author.Needs.{needs}
 use Rattle.ways.proofs.way_of.Statement.{statement}
 use Rattle.ways.proofs.way_of.Tie as tie
-use Rattle.ways.proofs.way_of.Reads as reads
-use Rattle.ways.proofs.way_of.Lts as lts
-use Rattle.evaluating.proofs.eval.Reads as eval-reads
-use Rattle.heads.proofs.head_at.Reads as head-at-reads
-use Rattle.kinds.proofs.arguments.Reads as arguments-reads
-use Rattle.ways.proofs.side_of.Reads as side-of-reads
 
 -- src/lib.rt:86:30
 head-at-requires : tie.Need-head-at-requires

@@ -6,8 +6,6 @@ use Rattle.work_room.proofs.Zeros.{Zeroed, zero-none, zero-more}
 use borrow.Author.Needs.{needs}
 use Rattle.work_room.proofs.clear.Statement.{statement}
 use Rattle.work_room.proofs.clear.Tie as tie
-use Rattle.work_room.proofs.clear.Reads as reads
-use Rattle.work_room.proofs.clear.Lts as lts
 
 abbrev Inv-loop : tie.InvT-loop
 Inv-loop work₀ n i₀ work i = (i ≤ n) × Zeroed work₀ i work
