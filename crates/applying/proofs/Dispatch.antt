@@ -1,11 +1,10 @@
 -- Each kind has its own call; the answer goes into the slot.
-use mathlib.Core.Path.{_≡_, ap, ap₂, sym, _∙_, subst}
+use mathlib.Core.Path.{_≡_, ap, ap₂, sym, _∙_}
 use mathlib.Core.Bool.{Bool, true, false}
 use mathlib.Core.List.{List, [], _∷_}
 use Prim.Native.Nat.{ℕ, _+_, _-_, _%_, _≤_, _<_}
 use lib.ListN.{length, take, drop}
 use borrow.Author.Tests.{eq-eqb, ne-eqb}
-use borrow.Rule.Slice.PartMut.{midOf, putMid}
 use Rattle.common.specs.Choice.{pick}
 use Rattle.common.specs.Answer.{Delivered, deliver}
 use Rattle.tree.specs.Bounds.{Bytes, argumentsOf, whenKind}
@@ -16,8 +15,7 @@ use Rattle.modes.specs.Cell.{callOf, cell, cellOf}
 use Rattle.demands.proofs.Real.{cell-valued, numbered}
 use Rattle.answers.specs.declared.Told.{Told}
 use Rattle.answers.specs.Told.{toldOf}
-use Rattle.slots.specs.Slots.{At, settledOf}
-use Rattle.slots.proofs.Settling.{at-slot}
+use Rattle.slots.proofs.Settling.{Led, led}
 use Rattle.applying.proofs.Numbering.{numberIn, two-cell, three-cell}
 use Rattle.applying.proofs.Loading.{slot-value}
 
@@ -63,26 +61,23 @@ pub as-three : (k : ℕ) (a b c out : List ℕ) (d : Delivered) → argumentsOf 
     → d ≡ deliver (ciphered cellOf k (a ∷ b ∷ c ∷ [])) out
 as-three k a b c out d e n h = h ∙ sym (ap (λ x. deliver x out) (three-cell k e n a b c))
 
--- `apply_two`, `apply_three`
-module _ (k o e : ℕ) (w ys : List ℕ) (r q : Told) (hw : Bytes w) (he : e ≡ o + 1024) (hl : e ≤ length w) (hy : length ys ≡ length (midOf o (e - o) w)) (hq : q ≡ settledOf r) where
-  pub two-applied : (a b : List ℕ) (la lb : ℕ) → la ≤ 1024 → lb ≤ 1024 → a ≡ take la (drop o w) → b ≡ take lb (drop (o + 1024) w)
-      → toldOf r ys ≡ deliver (realTwo cellOf k a b) (midOf o (e - o) w)
-      → At (realTwo cellOf k (take la (drop o w)) (take lb (drop (o + 1024) w))) o q w (putMid o (e - o) w ys)
+-- `apply_two`, `apply_three`: what the call told and wrote is the answer, in a room of its own
+module _ (k o : ℕ) (w mid ys : List ℕ) (r : Told) (hw : Bytes w) (hm : length mid ≡ 1024) where
+  pub two-led : (a b : List ℕ) (la lb : ℕ) → la ≤ 1024 → lb ≤ 1024 → a ≡ take la (drop o w) → b ≡ take lb (drop (o + 1024) w) → toldOf r ys ≡ deliver (realTwo cellOf k a b) mid
+      → Led (realTwo cellOf k (take la (drop o w)) (take lb (drop (o + 1024) w))) r ys
   unfolding real
-  two-applied a b la lb sa sb ea eb h =
-      subst (λ x. At (realTwo cellOf k (take la (drop o w)) (take lb (drop (o + 1024) w))) o x w (putMid o (e - o) w ys)) (sym hq)
-      (at-slot (realTwo cellOf k (take la (drop o w)) (take lb (drop (o + 1024) w))) o e r w ys he hl hy
+  two-led a b la lb sa sb ea eb h =
+      led r mid ys hm (realTwo cellOf k (take la (drop o w)) (take lb (drop (o + 1024) w)))
       (real-valued cellOf cell-valued .twoValued k (take la (drop o w)) (take lb (drop (o + 1024) w)) (slot-value w o la hw sa) (slot-value w (o + 1024) lb hw sb))
       (real-numbered cellOf numbered .twoNumbered k (take la (drop o w)) (take lb (drop (o + 1024) w)))
-      (h ∙ ap₂ (λ x y. deliver (realTwo cellOf k x y) (midOf o (e - o) w)) ea eb))
+      (h ∙ ap₂ (λ x y. deliver (realTwo cellOf k x y) mid) ea eb)
 
-  pub three-applied : (a b c : List ℕ) (la lb lc : ℕ) → la ≤ 1024 → lb ≤ 1024 → lc ≤ 1024 → a ≡ take la (drop o w) → b ≡ take lb (drop (o + 1024) w) → c ≡ take lc (drop (o + 2048) w)
-      → toldOf r ys ≡ deliver (ciphered cellOf k (a ∷ b ∷ c ∷ [])) (midOf o (e - o) w)
-      → At (ciphered cellOf k (take la (drop o w) ∷ take lb (drop (o + 1024) w) ∷ take lc (drop (o + 2048) w) ∷ [])) o q w (putMid o (e - o) w ys)
+  pub three-led : (a b c : List ℕ) (la lb lc : ℕ) → la ≤ 1024 → lb ≤ 1024 → lc ≤ 1024 → a ≡ take la (drop o w) → b ≡ take lb (drop (o + 1024) w) → c ≡ take lc (drop (o + 2048) w)
+      → toldOf r ys ≡ deliver (ciphered cellOf k (a ∷ b ∷ c ∷ [])) mid
+      → Led (ciphered cellOf k (take la (drop o w) ∷ take lb (drop (o + 1024) w) ∷ take lc (drop (o + 2048) w) ∷ [])) r ys
   unfolding real
-  three-applied a b c la lb lc sa sb sc ea eb ec h =
-      subst (λ x. At (ciphered cellOf k (take la (drop o w) ∷ take lb (drop (o + 1024) w) ∷ take lc (drop (o + 2048) w) ∷ [])) o x w (putMid o (e - o) w ys)) (sym hq)
-      (at-slot (ciphered cellOf k (take la (drop o w) ∷ take lb (drop (o + 1024) w) ∷ take lc (drop (o + 2048) w) ∷ [])) o e r w ys he hl hy
+  three-led a b c la lb lc sa sb sc ea eb ec h =
+      led r mid ys hm (ciphered cellOf k (take la (drop o w) ∷ take lb (drop (o + 1024) w) ∷ take lc (drop (o + 2048) w) ∷ []))
       (real-valued cellOf cell-valued .threeValued k (take la (drop o w)) (take lb (drop (o + 1024) w)) (take lc (drop (o + 2048) w)) (slot-value w o la hw sa) (slot-value w (o + 1024) lb hw sb) (slot-value w (o + 2048) lc hw sc))
       (real-numbered cellOf numbered .threeNumbered k (take la (drop o w)) (take lb (drop (o + 1024) w)) (take lc (drop (o + 2048) w)))
-      (h ∙ ap₂ (λ x y. deliver (ciphered cellOf k (x ∷ y ∷ c ∷ [])) (midOf o (e - o) w)) ea eb ∙ ap (λ z. deliver (ciphered cellOf k (take la (drop o w) ∷ take lb (drop (o + 1024) w) ∷ z ∷ [])) (midOf o (e - o) w)) ec))
+      (h ∙ ap₂ (λ x y. deliver (ciphered cellOf k (x ∷ y ∷ c ∷ [])) mid) ea eb ∙ ap (λ z. deliver (ciphered cellOf k (take la (drop o w) ∷ take lb (drop (o + 1024) w) ∷ z ∷ [])) mid) ec)

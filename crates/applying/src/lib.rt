@@ -1,4 +1,5 @@
-// Calls applied to arguments in slots of the work room: loaded by value, so that each call has separate buffers; the answer goes to the first slot.
+// Calls applied to arguments in slots of the work room: they are lent where they stand, and the call writes to a room of its own, so that its buffers are separate;
+// then the answer goes to the first slot.
 ghost use mathlib.Core.Path.{_≡_};
 ghost use mathlib.Core.List.{[], _∷_};
 ghost use Prim.Native.Nat.{_+_, _≤_};
@@ -9,22 +10,23 @@ ghost use Rattle.meaning.specs.Real.{realTwo, ciphered};
 ghost use Rattle.kinds.specs.Tables.{tablesFor};
 ghost use Rattle.lent.specs.Lent.{Lent};
 ghost use Rattle.modes.specs.Cell.{cellOf};
-ghost use Rattle.answers.specs.Told.{toldOf};
+ghost use Rattle.answers.specs.Told.{countOf, toldOf};
 ghost use Rattle.slots.specs.Slots.{At};
+ghost use Rattle.applying.specs.Left.{leftOf};
 use answers::Told;
 
-// The n bytes at o, by value.
-fn load(work: &[u8], o: usize, n: usize) -> [u8; 1024]
-    requires { ⌜ (o + n ≤ length (now work)) × (n ≤ 1024) ⌝ }
-    ensures { λ r. ⌜ (length r ≡ 1024) × (take n r ≡ take n (drop o (now (work .entry)))) ⌝ }
+// What a call wrote into its own room goes to the slot at o.
+fn leave(t: Told, out: &[u8], work: &mut [u8], o: usize) -> Told
+    requires { ⌜ (countOf t ≤ length (now out)) × (o + countOf t ≤ length (now work)) ⌝ }
+    ensures { λ r. ⌜ (r ≡ t) × (now (work .exit) ≡ leftOf t (now (out .entry)) (now (work .entry)) o) ⌝ }
 {
-    let mut r = [0u8; 1024];
-    let mut i: usize = 0;
-    while i < n {
-        r[i] = work[o + i];
-        i += 1;
+    match t {
+        Told::Done(n) => {
+            handing::put(work, o, &out[..n]);
+            Told::Done(n)
+        }
+        Told::Refused(m) => Told::Refused(m),
     }
-    r
 }
 
 // A call of two arguments: plain by its kind, or a cipher call, 0100 + 16f + suite, that has neither IV nor tag.
@@ -91,10 +93,21 @@ pub fn apply_two(
     requires { ⌜ (o + 2048 ≤ length (now work)) × (la ≤ 1024) × (lb ≤ 1024) × (argumentsOf k ≡ 2) × Lent (tablesFor k) (now tab) (now back) (now p) (now u) ⌝ }
     ensures { λ r. ⌜ At (realTwo cellOf k (take la (drop o (now (work .entry)))) (take lb (drop (o + 1024) (now (work .entry))))) o r (now (work .entry)) (now (work .exit)) ⌝ }
 {
-    let a = load(work, o, la);
-    let b = load(work, o + 1024, lb);
-    let e = o + 1024;
-    slots::settled(call_two(tab, back, p, u, k, &a[..la], &b[..lb], &mut work[o..e]))
+    let ea = o + la;
+    let second = o + 1024;
+    let eb = second + lb;
+    let mut out = [0u8; 1024];
+    let t = call_two(
+        tab,
+        back,
+        p,
+        u,
+        k,
+        &work[o..ea],
+        &work[second..eb],
+        &mut out,
+    );
+    leave(slots::settled(t), &out, work, o)
 }
 
 // The same for three, the third at o + 2,048.
@@ -113,19 +126,22 @@ pub fn apply_three(
     requires { ⌜ (o + 3072 ≤ length (now work)) × (la ≤ 1024) × (lb ≤ 1024) × (lc ≤ 1024) × (argumentsOf k ≡ 3) × (k ≡ whenKind → ⊥) × Lent (tablesFor k) (now tab) (now back) (now p) (now u) ⌝ }
     ensures { λ r. ⌜ At (ciphered cellOf k (take la (drop o (now (work .entry))) ∷ take lb (drop (o + 1024) (now (work .entry))) ∷ take lc (drop (o + 2048) (now (work .entry))) ∷ [])) o r (now (work .entry)) (now (work .exit)) ⌝ }
 {
-    let a = load(work, o, la);
-    let b = load(work, o + 1024, lb);
-    let c = load(work, o + 2048, lc);
-    let e = o + 1024;
-    slots::settled(call_three(
+    let ea = o + la;
+    let second = o + 1024;
+    let eb = second + lb;
+    let third = o + 2048;
+    let ec = third + lc;
+    let mut out = [0u8; 1024];
+    let t = call_three(
         tab,
         back,
         p,
         u,
         k,
-        &a[..la],
-        &b[..lb],
-        &c[..lc],
-        &mut work[o..e],
-    ))
+        &work[o..ea],
+        &work[second..eb],
+        &work[third..ec],
+        &mut out,
+    );
+    leave(slots::settled(t), &out, work, o)
 }

@@ -1,13 +1,11 @@
 -- The work room afterwards, and the whole outcome.
-use mathlib.Core.Path.{_≡_, refl, ap, ap₂, sym, _∙_}
+use mathlib.Core.Path.{_≡_, ap, ap₂, sym, _∙_}
 use mathlib.Core.Bool.{Bool, true, false}
 use mathlib.Core.List.{List, _++_}
 use Prim.Native.Nat.{ℕ, _+_, _≤_, _<_}
-use native.Mathlib.Omega.{arith}
-use lib.ListN.{length, drop, set, replicate, length-append, length-replicate, length-drop}
+use lib.ListN.{length, drop, replicate}
 use lib.Seq.{drop-at}
 use borrow.Author.Tests.{lt-ltb, le-ltb}
-use borrow.Author.Fill.{fill-more}
 use Rattle.common.specs.Choice.{pick}
 use Rattle.common.specs.Answer.{Delivered, refusal, deliver}
 use Rattle.recipe.specs.Outcome.{zeroed, cleared, outcome, inRoom}
@@ -15,17 +13,6 @@ use Rattle.recipe.specs.Run.{ranOf, runOf}
 use Rattle.modes.specs.Cell.{cellOf}
 use Rattle.answers.specs.declared.Told.the-variants.{Refused}
 use Rattle.answers.specs.Told.{numberOf, countOf, toldOf}
-
--- `clear`
-pub fills-none : (w : List ℕ) → w ≡ replicate 0 0 ++ drop 0 w
-fills-none w = refl
-
-pub fills-more : (w d : List ℕ) (i : ℕ) → d ≡ replicate i 0 ++ drop i w → i < length w → set d i 0 ≡ replicate (i + 1) 0 ++ drop (i + 1) w
-fills-more w d i e h = ap (λ x. set x i 0) e ∙ fill-more i 0 w h
-
-pub fills-done : (w d : List ℕ) (i n : ℕ) → i ≡ n → d ≡ replicate i 0 ++ drop i w → d ≡ zeroed n w
-unfolding zeroed
-fills-done w d i n e h = h ∙ ap (λ k. replicate k 0 ++ drop k w) e
 
 -- cleared after its front was written, it is what would be cleared before
 pub cleared-front : (n : ℕ) (w ys : List ℕ) → length ys ≡ n → zeroed n (ys ++ drop n w) ≡ zeroed n w
@@ -50,10 +37,3 @@ module _ (image list out work : List ℕ) where
   unfolding runOf inRoom cleared
   had-room d w room e h a b =
       ap₂ (λ x y. outcome x 0 y) a (b ∙ ap (λ n. zeroed n work) e) ∙ sym (pick-false _ _ _ (le-ltb (length work) 65536 h))
-
-pub filled-length : (w d : List ℕ) (i : ℕ) → d ≡ replicate i 0 ++ drop i w → i ≤ length w → length d ≡ length w
-filled-length w d i e h =
-    let a = length-append (replicate i 0) (drop i w) in
-    let b = length-replicate {A = ℕ} i 0 in
-    let c = length-drop i w in
-    ap length e ∙ omega arith

@@ -11,18 +11,6 @@ ghost use Rattle.runner.specs.Sound.{Sound, Served};
 use answers::Told;
 use image_check::Verdict;
 
-// The first n bytes become zero.
-fn clear(w: &mut [u8], n: usize)
-    requires { ⌜ n ≤ length (now w) ⌝ }
-    ensures { λ r. ⌜ now (w .exit) ≡ zeroed n (now (w .entry)) ⌝ }
-{
-    let mut i: usize = 0;
-    while i < n {
-        w[i] = 0;
-        i += 1;
-    }
-}
-
 // The whole image is evaluated with lent tables, its value copied to the output.
 fn value_of<'a>(
     image: &'a [u8],
@@ -127,7 +115,7 @@ fn in_room<'a>(
     ensures { λ r. ⌜ (toldOf r (now (out .exit)) ≡ deliver (ranOf cellOf (now (image .entry)) (now (list .entry))) (now (out .entry))) × (now (work .exit) ≡ zeroed room (now (work .entry))) ⌝ }
 {
     let t = ran(image, list, out, &mut work[..room]);
-    clear(work, room);
+    work_room::clear(work, room);
     t
 }
 

@@ -52,12 +52,12 @@ refused-told (Done m) n a z = absurd (z (sym a))
 refused-told (Refused m) n a z = pick-false _ _ _ (ne-eqb m 0 (λ q. z (sym a ∙ q))) ∙ ap Refused a
 
 -- the value's bytes lead what was delivered
-record Led (x : Answer) (r : Told) (ys : List ℕ) : Type 0 where
-  told : settledOf r ≡ tellOf x
-  holds : Holds x ys 0
+pub record Led (x : Answer) (r : Told) (ys : List ℕ) : Type 0 where
+  pub told : settledOf r ≡ tellOf x
+  pub holds : Holds x ys 0
 
 module _ (r : Told) (mid ys : List ℕ) (long : length mid ≡ 1024) where
-  led : (x : Answer) → Valued x → Numbered x → toldOf r ys ≡ deliver x mid → Led x r ys
+  pub led : (x : Answer) → Valued x → Numbered x → toldOf r ys ≡ deliver x mid → Led x r ys
   unfolding toldOf tellOf Holds deliver refusal
   led (value v) hv hn e =
       let s : length v ≤ 1024 = hv v refl .short in

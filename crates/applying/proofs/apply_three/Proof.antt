@@ -1,108 +1,118 @@
 use native.Mathlib.Omega.{arith}
 use mathlib.Core.Path.{refl}
 use Prim.Native.Nat.{_+_}
-use Rattle.applying.proofs.Loading.{load-lent}
-use Rattle.applying.proofs.Dispatch.{three-applied}
+use Rattle.applying.proofs.Loading.{part-lent, fits-slot, left-at, under, as-left}
+use Rattle.applying.proofs.Dispatch.{three-led}
 use borrow.Author.Needs.{needs}
 use Rattle.applying.proofs.apply_three.Statement.{statement}
 use Rattle.applying.proofs.apply_three.Tie as tie
 
--- src/lib.rt:125:13
-load-requires : tie.Need-load-requires
-load-requires c κs = search needs
+-- src/lib.rt:129:14
+add-ea : tie.Need-add-ea
+add-ea c = search needs
 
--- src/lib.rt:126:24
-add-load : tie.Need-add-load
-add-load c = search needs
+-- src/lib.rt:130:18
+add-second : tie.Need-add-second
+add-second c = search needs
 
--- src/lib.rt:126:13
-load-requires-2 : tie.Need-load-requires-2
-load-requires-2 c κs = search needs
+-- src/lib.rt:131:14
+add-eb : tie.Need-add-eb
+add-eb c = search needs
 
--- src/lib.rt:127:24
-add-load-2 : tie.Need-add-load-2
-add-load-2 c = search needs
+-- src/lib.rt:132:17
+add-third : tie.Need-add-third
+add-third c = search needs
 
--- src/lib.rt:127:13
-load-requires-3 : tie.Need-load-requires-3
-load-requires-3 c κs = search needs
+-- src/lib.rt:133:14
+add-ec : tie.Need-add-ec
+add-ec c = search needs
 
--- src/lib.rt:128:13
-add-e : tie.Need-add-e
-add-e c = search needs
-
--- src/lib.rt:135:9
-array-share-prefix-a : tie.Need-array-share-prefix-a
-array-share-prefix-a c = search needs
-
--- src/lib.rt:135:9
-slice-aggregate-call-three : tie.Need-slice-aggregate-call-three
-slice-aggregate-call-three c = load-lent (c .before .before .before .before .before .load .result) (c .before .before .before .before .before .before .before .before .args .la) (c .before .before .before .before .before .load .ensures .0) (c .before .before .before .before .before .before .before .before .pre .1)
-
--- src/lib.rt:136:9
-array-share-prefix-b : tie.Need-array-share-prefix-b
-array-share-prefix-b c = search needs
-
--- src/lib.rt:136:9
-slice-aggregate-call-three-2 : tie.Need-slice-aggregate-call-three-2
-slice-aggregate-call-three-2 c = load-lent (c .before .before .before .before .load2 .result) (c .before .before .before .before .before .before .before .before .before .args .lb) (c .before .before .before .before .load2 .ensures .0) (c .before .before .before .before .before .before .before .before .before .pre .2)
-
--- src/lib.rt:137:9
-array-share-prefix-c : tie.Need-array-share-prefix-c
-array-share-prefix-c c = search needs
-
--- src/lib.rt:137:9
-slice-aggregate-call-three-3 : tie.Need-slice-aggregate-call-three-3
-slice-aggregate-call-three-3 c = load-lent (c .before .before .before .load3 .result) (c .before .before .before .before .before .before .before .before .before .before .args .lc) (c .before .before .before .load3 .ensures .0) (c .before .before .before .before .before .before .before .before .before .before .pre .3)
-
--- src/lib.rt:138:9
+-- src/lib.rt:141:9
 sub-call-three : tie.Need-sub-call-three
 sub-call-three c = search needs
 
--- src/lib.rt:138:9
+-- src/lib.rt:141:9
 part-call-three-start : tie.Need-part-call-three-start
 part-call-three-start c = search needs
 
--- src/lib.rt:138:9
+-- src/lib.rt:141:9
 part-call-three-end : tie.Need-part-call-three-end
 part-call-three-end c = search needs
 
--- src/lib.rt:129:20
-call-three-requires : tie.Need-call-three-requires
-call-three-requires c κs = (c .before .before .before .before .before .before .before .before .before .before .before .pre .4, c .before .before .before .before .before .before .before .before .before .before .before .pre .5, c .before .before .before .before .before .before .before .before .before .before .before .pre .6)
+-- src/lib.rt:142:9
+sub-call-three-2 : tie.Need-sub-call-three-2
+sub-call-three-2 c = search needs
 
--- src/lib.rt:129:5
+-- src/lib.rt:142:9
+part-call-three-start-2 : tie.Need-part-call-three-start-2
+part-call-three-start-2 c = search needs
+
+-- src/lib.rt:142:9
+part-call-three-end-2 : tie.Need-part-call-three-end-2
+part-call-three-end-2 c = search needs
+
+-- src/lib.rt:143:9
+sub-call-three-3 : tie.Need-sub-call-three-3
+sub-call-three-3 c = search needs
+
+-- src/lib.rt:143:9
+part-call-three-start-3 : tie.Need-part-call-three-start-3
+part-call-three-start-3 c = search needs
+
+-- src/lib.rt:143:9
+part-call-three-end-3 : tie.Need-part-call-three-end-3
+part-call-three-end-3 c = search needs
+
+-- src/lib.rt:144:9
+slice-aggregate-call-three : tie.Need-slice-aggregate-call-three
+slice-aggregate-call-three c = search needs
+
+-- src/lib.rt:135:9
+call-three-requires : tie.Need-call-three-requires
+call-three-requires c κs = search needs
+
+-- src/lib.rt:146:11
 settled-requires : tie.Need-settled-requires
 settled-requires c κs = search needs
 
--- src/lib.rt:110:1
+-- src/lib.rt:146:30
+slice-aggregate-leave : tie.Need-slice-aggregate-leave
+slice-aggregate-leave c = search needs
+
+-- src/lib.rt:146:5
+leave-requires : tie.Need-leave-requires
+leave-requires c κs = (under _ _ (fits-slot (c .before .before .before .before .call-three .result) (c .before .before .settled .result) (c .before .before .before .before .call-three .last .1 .1 .1 .1 .1 .1 .1 .1 .0) (c .before .before .settled .ensures) _ (three-led (c .before .before .before .before .before .before .before .before .before .before .before .args .k) (c .before .before .before .before .before .before .before .before .before .before .before .args .o) (c .before .before .before .before .before .before .before .before .before .before .before .args .work .now) _ (c .before .before .before .before .call-three .last .1 .1 .1 .1 .1 .1 .1 .1 .0) (c .before .before .before .before .call-three .result) (λ i. omega (arith, c .before .before .before .before .before .before .before .before .before .before .slice-known .given i)) refl _ _ _ (c .before .before .before .before .before .before .before .before .before .before .before .args .la) (c .before .before .before .before .before .before .before .before .before .before .before .args .lb) (c .before .before .before .before .before .before .before .before .before .before .before .args .lc) (c .before .before .before .before .before .before .before .before .before .before .before .pre .1) (c .before .before .before .before .before .before .before .before .before .before .before .pre .2) (c .before .before .before .before .before .before .before .before .before .before .before .pre .3) (part-lent (c .before .before .before .before .before .before .before .before .before .before .before .args .work .now) (c .before .before .before .before .before .before .before .before .before .before .before .args .o) (c .before .before .before .before .before .before .before .before .before .before .before .args .la)) (part-lent (c .before .before .before .before .before .before .before .before .before .before .before .args .work .now) ((c .before .before .before .before .before .before .before .before .before .before .before .args .o) + 1024) (c .before .before .before .before .before .before .before .before .before .before .before .args .lb)) (part-lent (c .before .before .before .before .before .before .before .before .before .before .before .args .work .now) ((c .before .before .before .before .before .before .before .before .before .before .before .args .o) + 2048) (c .before .before .before .before .before .before .before .before .before .before .before .args .lc)) (c .before .before .before .before .call-three .ensures))) (c .before .before .before .before .call-three .kept .1 .1 .1 .1 .1 .1 .1 .1 .0), omega (arith, fits-slot (c .before .before .before .before .call-three .result) (c .before .before .settled .result) (c .before .before .before .before .call-three .last .1 .1 .1 .1 .1 .1 .1 .1 .0) (c .before .before .settled .ensures) _ (three-led (c .before .before .before .before .before .before .before .before .before .before .before .args .k) (c .before .before .before .before .before .before .before .before .before .before .before .args .o) (c .before .before .before .before .before .before .before .before .before .before .before .args .work .now) _ (c .before .before .before .before .call-three .last .1 .1 .1 .1 .1 .1 .1 .1 .0) (c .before .before .before .before .call-three .result) (λ i. omega (arith, c .before .before .before .before .before .before .before .before .before .before .slice-known .given i)) refl _ _ _ (c .before .before .before .before .before .before .before .before .before .before .before .args .la) (c .before .before .before .before .before .before .before .before .before .before .before .args .lb) (c .before .before .before .before .before .before .before .before .before .before .before .args .lc) (c .before .before .before .before .before .before .before .before .before .before .before .pre .1) (c .before .before .before .before .before .before .before .before .before .before .before .pre .2) (c .before .before .before .before .before .before .before .before .before .before .before .pre .3) (part-lent (c .before .before .before .before .before .before .before .before .before .before .before .args .work .now) (c .before .before .before .before .before .before .before .before .before .before .before .args .o) (c .before .before .before .before .before .before .before .before .before .before .before .args .la)) (part-lent (c .before .before .before .before .before .before .before .before .before .before .before .args .work .now) ((c .before .before .before .before .before .before .before .before .before .before .before .args .o) + 1024) (c .before .before .before .before .before .before .before .before .before .before .before .args .lb)) (part-lent (c .before .before .before .before .before .before .before .before .before .before .before .args .work .now) ((c .before .before .before .before .before .before .before .before .before .before .before .args .o) + 2048) (c .before .before .before .before .before .before .before .before .before .before .before .args .lc)) (c .before .before .before .before .call-three .ensures)), c .before .before .before .before .before .before .before .before .before .before .before .pre .0))
+
+-- src/lib.rt:114:1
 same-length : tie.Need-same-length
 same-length c = search needs
 
--- src/lib.rt:110:1
+-- src/lib.rt:114:1
 returns : tie.Need-returns
-returns c = three-applied (c .before .before .before .before .before .before .before .before .before .before .before .before .before .before .before .args .k) (c .before .before .before .before .before .before .before .before .before .before .before .before .before .before .before .args .o) ((c .before .before .before .before .before .before .before .before .before .before .before .before .before .before .before .args .o) + 1024) (c .before .before .before .before .before .before .before .before .before .before .before .before .before .before .before .args .work .now) _ (c .before .before .before .call-three .result) (c .settled .result) (λ i. omega (arith, c .before .before .before .before .before .before .before .before .before .before .before .before .before .before .slice-known .given i)) refl (omega (arith, c .before .before .before .before .before .before .before .before .before .before .before .before .before .before .before .pre .0)) (c .before .before .before .call-three .kept .1 .1 .1 .1 .1 .1 .1 .1 .0) (c .settled .ensures) _ _ _ (c .before .before .before .before .before .before .before .before .before .before .before .before .before .before .before .args .la) (c .before .before .before .before .before .before .before .before .before .before .before .before .before .before .before .args .lb) (c .before .before .before .before .before .before .before .before .before .before .before .before .before .before .before .args .lc) (c .before .before .before .before .before .before .before .before .before .before .before .before .before .before .before .pre .1) (c .before .before .before .before .before .before .before .before .before .before .before .before .before .before .before .pre .2) (c .before .before .before .before .before .before .before .before .before .before .before .before .before .before .before .pre .3) (c .before .before .before .before .before .before .before .before .before .before .before .before .load .ensures .1) (c .before .before .before .before .before .before .before .before .before .before .load2 .ensures .1) (c .before .before .before .before .before .before .before .before .load3 .ensures .1) (c .before .before .before .call-three .ensures)
+returns c = as-left _ (c .before .before .before .before .before .before .before .before .before .before .before .before .before .before .args .o) (c .before .before .leave .result) (c .before .before .before .before .before .settled .result) (c .before .before .before .before .before .before .before .before .before .before .before .before .before .before .args .work .now) _ _ (c .before .before .leave .ensures .0) (c .before .before .leave .ensures .1) (left-at (c .before .before .before .before .before .before .before .call-three .result) (c .before .before .before .before .before .settled .result) (c .before .before .before .before .before .before .before .call-three .last .1 .1 .1 .1 .1 .1 .1 .1 .0) (c .before .before .before .before .before .settled .ensures) _ (c .before .before .before .before .before .before .before .before .before .before .before .before .before .before .args .o) (c .before .before .before .before .before .before .before .before .before .before .before .before .before .before .args .work .now) (three-led (c .before .before .before .before .before .before .before .before .before .before .before .before .before .before .args .k) (c .before .before .before .before .before .before .before .before .before .before .before .before .before .before .args .o) (c .before .before .before .before .before .before .before .before .before .before .before .before .before .before .args .work .now) _ (c .before .before .before .before .before .before .before .call-three .last .1 .1 .1 .1 .1 .1 .1 .1 .0) (c .before .before .before .before .before .before .before .call-three .result) (λ i. omega (arith, c .before .before .before .before .before .before .before .before .before .before .before .before .before .slice-known .given i)) refl _ _ _ (c .before .before .before .before .before .before .before .before .before .before .before .before .before .before .args .la) (c .before .before .before .before .before .before .before .before .before .before .before .before .before .before .args .lb) (c .before .before .before .before .before .before .before .before .before .before .before .before .before .before .args .lc) (c .before .before .before .before .before .before .before .before .before .before .before .before .before .before .pre .1) (c .before .before .before .before .before .before .before .before .before .before .before .before .before .before .pre .2) (c .before .before .before .before .before .before .before .before .before .before .before .before .before .before .pre .3) (part-lent (c .before .before .before .before .before .before .before .before .before .before .before .before .before .before .args .work .now) (c .before .before .before .before .before .before .before .before .before .before .before .before .before .before .args .o) (c .before .before .before .before .before .before .before .before .before .before .before .before .before .before .args .la)) (part-lent (c .before .before .before .before .before .before .before .before .before .before .before .before .before .before .args .work .now) ((c .before .before .before .before .before .before .before .before .before .before .before .before .before .before .args .o) + 1024) (c .before .before .before .before .before .before .before .before .before .before .before .before .before .before .args .lb)) (part-lent (c .before .before .before .before .before .before .before .before .before .before .before .before .before .before .args .work .now) ((c .before .before .before .before .before .before .before .before .before .before .before .before .before .before .args .o) + 2048) (c .before .before .before .before .before .before .before .before .before .before .before .before .before .before .args .lc)) (c .before .before .before .before .before .before .before .call-three .ensures)) (c .before .before .before .before .before .before .before .call-three .kept .1 .1 .1 .1 .1 .1 .1 .1 .0) (omega (arith, c .before .before .before .before .before .before .before .before .before .before .before .before .before .before .pre .0)))
 
 pub apply-three-spec : {M : Type 1} → statement M
 apply-three-spec =
     tie.close
     (tie.spec
-    load-requires
-    add-load
-    load-requires-2
-    add-load-2
-    load-requires-3
-    add-e
-    array-share-prefix-a
-    slice-aggregate-call-three
-    array-share-prefix-b
-    slice-aggregate-call-three-2
-    array-share-prefix-c
-    slice-aggregate-call-three-3
+    add-ea
+    add-second
+    add-eb
+    add-third
+    add-ec
     sub-call-three
     part-call-three-start
     part-call-three-end
+    sub-call-three-2
+    part-call-three-start-2
+    part-call-three-end-2
+    sub-call-three-3
+    part-call-three-start-3
+    part-call-three-end-3
+    slice-aggregate-call-three
     call-three-requires
     settled-requires
+    slice-aggregate-leave
+    leave-requires
     same-length
     returns)

@@ -1,0 +1,2 @@
+-- Answers left in slots.
+pub mod Left
