@@ -4,11 +4,6 @@ use lib.Seq.{length-front}
 use borrow.Author.Needs.{needs}
 use Rattle.vectors.proofs.answers.Statement.{statement}
 use Rattle.vectors.proofs.answers.Tie as tie
-use Rattle.vectors.proofs.answers.Reads as reads
-use Rattle.vectors.proofs.answers.Lts as lts
-use Rattle.check.proofs.same.Reads as same-reads
-use Rattle.vectors.proofs.entry.Reads as entry-reads
-use Rattle.vectors.proofs.filled.Reads as filled-reads
 
 returns : tie.Need-returns
 returns c = search needs

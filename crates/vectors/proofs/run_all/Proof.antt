@@ -1,14 +1,8 @@
 use borrow.Author.Needs.{needs}
 use Prim.Native.Nat.{_+_, _-_, _≤_}
 use lib.ListN.{length}
-use mathlib.Core.Path.{_≡_}
 use Rattle.vectors.proofs.run_all.Statement.{statement}
 use Rattle.vectors.proofs.run_all.Tie as tie
-use Rattle.vectors.proofs.run_all.Reads as reads
-use Rattle.vectors.proofs.run_all.Lts as lts
-use Rattle.bytes.proofs.scan.find.Reads as find-reads
-use Rattle.std.proofs.num.wrapping_add_u64.Reads as wrapping-add-u64-reads
-use Rattle.vectors.proofs.run.Reads as run-reads
 
 abbrev Inv-loop : tie.InvT-loop
 Inv-loop s right₀ rows₀ p₀ right rows p = p ≤ length s + 1

@@ -1,15 +1,9 @@
 use borrow.Author.Needs.{needs}
-use Prim.Native.Nat.{_+_, _-_, _≤_}
+use Prim.Native.Nat.{_-_, _≤_}
 use lib.ListN.{length}
 use mathlib.Core.Path.{_≡_}
 use Rattle.vectors.proofs.rows.bytes_in.Statement.{statement}
 use Rattle.vectors.proofs.rows.bytes_in.Tie as tie
-use Rattle.vectors.proofs.rows.bytes_in.Reads as reads
-use Rattle.vectors.proofs.rows.bytes_in.Lts as lts
-use Rattle.tokens.proofs.pair_at.Reads as pair-at-reads
-use Rattle.vectors.proofs.rows.field.Reads as field-reads
-use Rattle.vectors.proofs.rows.put.Reads as put-reads
-use Rattle.vectors.proofs.rows.run_at.Reads as run-at-reads
 
 abbrev Inv-loop : tie.InvT-loop
 Inv-loop s n out₀ o i₀ at₀ out i at = (i ≤ length s) × (o ≤ at) × (at ≤ length out) × (length out ≡ length out₀)

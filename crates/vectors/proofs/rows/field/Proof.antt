@@ -1,12 +1,8 @@
 use borrow.Author.Needs.{needs}
-use Prim.Native.Nat.{_+_, _-_, _≤_}
+use Prim.Native.Nat.{_-_, _≤_}
 use lib.ListN.{length}
-use mathlib.Core.Path.{_≡_}
 use Rattle.vectors.proofs.rows.field.Statement.{statement}
 use Rattle.vectors.proofs.rows.field.Tie as tie
-use Rattle.vectors.proofs.rows.field.Reads as reads
-use Rattle.vectors.proofs.rows.field.Lts as lts
-use Rattle.vectors.proofs.rows.after.Reads as after-reads
 
 abbrev Inv-loop : tie.InvT-loop
 Inv-loop s n p₀ k₀ p k = p ≤ length s

@@ -1,14 +1,8 @@
 use borrow.Author.Needs.{needs}
-use Prim.Native.Nat.{_+_, _-_, _≤_}
+use Prim.Native.Nat.{_-_, _≤_}
 use lib.ListN.{length}
-use mathlib.Core.Path.{_≡_}
 use Rattle.vectors.proofs.rows.number.Statement.{statement}
 use Rattle.vectors.proofs.rows.number.Tie as tie
-use Rattle.vectors.proofs.rows.number.Reads as reads
-use Rattle.vectors.proofs.rows.number.Lts as lts
-use Rattle.tokens.proofs.pair_at.Reads as pair-at-reads
-use Rattle.vectors.proofs.rows.field.Reads as field-reads
-use Rattle.vectors.proofs.rows.grown.Reads as grown-reads
 
 abbrev Inv-loop : tie.InvT-loop
 Inv-loop s n v₀ i₀ v i = i ≤ length s

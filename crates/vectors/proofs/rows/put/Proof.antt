@@ -1,12 +1,9 @@
 use borrow.Author.Needs.{needs}
-use Prim.Native.Nat.{_+_, _-_, _≤_}
+use Prim.Native.Nat.{_-_, _≤_}
 use lib.ListN.{length}
 use mathlib.Core.Path.{_≡_}
 use Rattle.vectors.proofs.rows.put.Statement.{statement}
 use Rattle.vectors.proofs.rows.put.Tie as tie
-use Rattle.vectors.proofs.rows.put.Reads as reads
-use Rattle.vectors.proofs.rows.put.Lts as lts
-use Rattle.vectors.proofs.rows.end_of.Reads as end-of-reads
 
 abbrev Inv-loop : tie.InvT-loop
 Inv-loop out₀ o b n e at₀ out at = (at ≤ e) × (e ≤ length out) × (length out ≡ length out₀)

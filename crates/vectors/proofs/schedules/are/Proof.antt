@@ -4,13 +4,6 @@ use Rattle.suite_laws.proofs.Rows.{known-row}
 use borrow.Author.Needs.{needs}
 use Rattle.vectors.proofs.schedules.are.Statement.{statement}
 use Rattle.vectors.proofs.schedules.are.Tie as tie
-use Rattle.vectors.proofs.schedules.are.Reads as reads
-use Rattle.vectors.proofs.schedules.are.Lts as lts
-use Rattle.keys.proofs.helper_columns.Reads as helper-columns-reads
-use Rattle.keys.proofs.schedule.Reads as schedule-reads
-use Rattle.seal_table.proofs.table.Reads as table-reads
-use Rattle.suites.proofs.suite_of.Reads as suite-of-reads
-use Rattle.vectors.proofs.schedules.columns_are.Reads as columns-are-reads
 
 suite-of-requires : tie.Need-suite-of-requires
 suite-of-requires c κs = search needs

@@ -1,12 +1,8 @@
 use borrow.Author.Needs.{needs}
-use Prim.Native.Nat.{_+_, _-_, _≤_}
+use Prim.Native.Nat.{_-_, _≤_}
 use lib.ListN.{length}
-use mathlib.Core.Path.{_≡_}
 use Rattle.vectors.proofs.schedules.columns_are.Statement.{statement}
 use Rattle.vectors.proofs.schedules.columns_are.Tie as tie
-use Rattle.vectors.proofs.schedules.columns_are.Reads as reads
-use Rattle.vectors.proofs.schedules.columns_are.Lts as lts
-use Rattle.loads.proofs.column_at.Reads as column-at-reads
 
 abbrev Inv-loop : tie.InvT-loop
 Inv-loop ks want i₀ i = i ≤ length want
