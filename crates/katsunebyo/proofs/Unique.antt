@@ -7,6 +7,7 @@ use Rattle.common.proofs.Unique.{by-equation}
 use Rattle.answers.specs.Told.{numberOf, countOf, toldOf}
 use Rattle.answers.specs.declared.Told.{Told}
 use Rattle.modes.specs.Cell.{Call, cell}
+use Rattle.recipe.specs.Outcome.{Outcome, outcome}
 use Rattle.entries.specs.Seen.{seen}
 
 module _ (f : Call) (suite : ℕ) (key side text : Value) (out : List ℕ) (r r′ l l′ : ℕ) (o o′ : List ℕ)
@@ -43,3 +44,28 @@ module _ (d : Delivered) (t t′ : Told) (o o′ : List ℕ) (e : toldOf t o ≡
   pub told-output : o ≡ o′
   unfolding toldOf
   told-output = ap (λ x. x .out) told-same
+
+-- The same of preparing and running: number, length, place, every output byte and every byte of the work room.
+module _ (x : Outcome) (r r′ l l′ p p′ : ℕ) (o o′ w w′ : List ℕ) (e : outcome (seen r l o) p w ≡ x) (e′ : outcome (seen r′ l′ o′) p′ w′ ≡ x) where
+  all-same : outcome (seen r l o) p w ≡ outcome (seen r′ l′ o′) p′ w′
+  all-same = by-equation x (outcome (seen r l o) p w) (outcome (seen r′ l′ o′) p′ w′) e e′
+
+  pub one-number-all : r ≡ r′
+  unfolding outcome seen
+  one-number-all = ap (λ d. d .number) all-same
+
+  pub one-length-all : l ≡ l′
+  unfolding outcome seen
+  one-length-all = ap (λ d. d .count) all-same
+
+  pub one-place : p ≡ p′
+  unfolding outcome seen
+  one-place = ap (λ d. d .place) all-same
+
+  pub one-output-all : o ≡ o′
+  unfolding outcome seen
+  one-output-all = ap (λ d. d .out) all-same
+
+  pub one-work-room : w ≡ w′
+  unfolding outcome seen
+  one-work-room = ap (λ d. d .work) all-same

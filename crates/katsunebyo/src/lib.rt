@@ -4,8 +4,10 @@ ghost use mathlib.Core.List.{[]};
 ghost use Rattle.common.specs.Answer.{deliver};
 ghost use Rattle.modes.specs.Cell.{Call, cell, cellOf};
 ghost use Rattle.recipe.specs.Outcome.{outcome};
+ghost use Rattle.recipe.specs.Prepare.{prepareOf};
 ghost use Rattle.recipe.specs.Run.{runOf};
 ghost use Rattle.entries.specs.Seen.{seen};
+use preparing::Ended;
 
 // One block sealed.
 #[no_mangle]
@@ -191,6 +193,32 @@ pub extern "C" fn katsu_chk(
     ensures { λ r. ⌜ seen r (now (length .exit)) (now (out .exit)) ≡ deliver (cell Call.chk suite (now (key .entry)) (now (tag .entry)) (now (text .entry))) (now (out .entry)) ⌝ }
 {
     answers::give(entries::sealed(11, suite, key, tag, text, out), length)
+}
+
+// A recipe text prepared to an image, with the values of `#`; the place is where in the text a refusal stands.
+#[no_mangle]
+pub extern "C" fn katsu_prepare(
+    text: &[u8],
+    list: &[u8],
+    out: &mut [u8],
+    work: &mut [u8],
+    length: &mut usize,
+    place: &mut usize,
+) -> u32
+    ensures { λ r. ⌜ outcome (seen r (now (length .exit)) (now (out .exit))) (now (place .exit)) (now (work .exit)) ≡ prepareOf cellOf (now (text .entry)) (now (list .entry)) (now (out .entry)) (now (work .entry)) ⌝ }
+{
+    match preparing::prepare(text, list, out, work) {
+        Ended::Done(n) => {
+            *length = n;
+            *place = 0;
+            0
+        }
+        Ended::Refused(m, p) => {
+            *length = 0;
+            *place = p;
+            m
+        }
+    }
 }
 
 // An image run on a list of values, once a row.

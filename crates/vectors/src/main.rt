@@ -1,8 +1,10 @@
 // Runs a table of calls through the twelve entries: the examples of document 003, Annex В.2 to В.7, and the bounds and refusals of document 01, section 7.
-// A row is `NAME: KIND CALL SUITE NUMBER ROOM KEY SIDE TEXT WANT`. KIND is p for an example as printed, d for one that is derived from a printed one, t for
-// any other row; a row `NAME: =` sums up the rows since the last sum. CALL is an entry, or `helper` or `rounds` for the key schedule. NUMBER is the
-// answer due and WANT the bytes due with it; ROOM is the output's length, SIDE an IV or a tag. Numbers and bytes are pairs of digits.
-ghost use Prim.Native.Nat.{_≤_};
+// A row is `NAME: KIND CALL SUITE NUMBER ROOM KEY SIDE TEXT WANT`. KIND is p for a row that is told of, t for one that is told of if it is wrong; a row
+// `NAME: =` sums up the rows since the last sum. CALL is an entry, or `helper` or `rounds` for the key schedule. NUMBER is the answer due and WANT the
+// bytes due with it; ROOM is the output's length, SIDE an IV or a tag. Numbers and bytes are pairs of digits, *hhhh after a byte says how often it
+// stands there, and - is no byte.
+ghost use mathlib.Core.Path.{_≡_};
+ghost use Prim.Native.Nat.{_≤_, _<_};
 ghost use lib.ListN.{length};
 
 mod rows;
@@ -11,57 +13,33 @@ mod schedules;
 use libc::STDIN_FILENO;
 use libc::STDOUT_FILENO;
 
-struct Tally {
-    rows: u64,
-    right: u64,
-    derived: u64,
+// A call by its number, and what is due.
+struct Ask {
+    call: usize,
+    suite: u64,
+    number: u64,
+    room: usize,
 }
 
-// The calls in the order of document 01, section 6; 12 and 13 are the key schedule, 14 is none.
-fn call_of(s: &[u8]) -> usize {
-    if check::same(s, b"blk") {
-        return 0;
+// The calls in the order of document 01, section 6, by their letters; 12 and 13 are the key schedule, 14 is none.
+fn call_of(word: u64) -> usize {
+    match word {
+        0x626C6B => 0, // blk
+        0x756E626C6B => 1, // unblk
+        0x637472 => 2, // ctr
+        0x6F6662 => 3, // ofb
+        0x636662 => 4, // cfb
+        0x756E636662 => 5, // uncfb
+        0x636263 => 6, // cbc
+        0x756E636263 => 7, // uncbc
+        0x636270 => 8, // cbp
+        0x756E636270 => 9, // uncbp
+        0x6D6163 => 10, // mac
+        0x63686B => 11, // chk
+        0x68656C706572 => 12, // helper
+        0x726F756E6473 => 13, // rounds
+        _ => 14,
     }
-    if check::same(s, b"unblk") {
-        return 1;
-    }
-    if check::same(s, b"ctr") {
-        return 2;
-    }
-    if check::same(s, b"ofb") {
-        return 3;
-    }
-    if check::same(s, b"cfb") {
-        return 4;
-    }
-    if check::same(s, b"uncfb") {
-        return 5;
-    }
-    if check::same(s, b"cbc") {
-        return 6;
-    }
-    if check::same(s, b"uncbc") {
-        return 7;
-    }
-    if check::same(s, b"cbp") {
-        return 8;
-    }
-    if check::same(s, b"uncbp") {
-        return 9;
-    }
-    if check::same(s, b"mac") {
-        return 10;
-    }
-    if check::same(s, b"chk") {
-        return 11;
-    }
-    if check::same(s, b"helper") {
-        return 12;
-    }
-    if check::same(s, b"rounds") {
-        return 13;
-    }
-    14
 }
 
 fn entry(
@@ -89,97 +67,44 @@ fn entry(
     }
 }
 
-// Whether a buffer holds these bytes and beyond them is as it was filled.
-fn holds(out: &[u8], want: &[u8]) -> bool {
-    if out.len() < want.len() {
-        return false;
-    }
-    let mut i: usize = 0;
-    while i < out.len() {
-        let mut b: u8 = 0xA5;
-        if i < want.len() {
-            b = want[i];
-        }
-        if out[i] != b {
-            return false;
-        }
-        i += 1;
-    }
-    true
+// A buffer filled with A5, these bytes in front.
+fn filled(v: &[u8]) -> [u8; 2048]
+    requires { ⌜ length (now v) ≤ 2048 ⌝ }
+    ensures { λ r. ⌜ 2048 ≡ length r ⌝ }
+{
+    let mut b = [0xA5u8; 2048];
+    bytes::copy(v, &mut b);
+    b
 }
 
-// Whether a call into the front of a filled buffer answers so, in number, length and every byte.
-fn answers_in(
-    f: usize,
-    suite: u64,
-    number: u64,
-    room: usize,
-    key: &[u8],
-    side: &[u8],
-    text: &[u8],
-    want: &[u8],
-    out: &mut [u8],
-) -> bool {
-    if out.len() < room {
+// Whether a call into the front of a filled buffer answers so: the number, the length, and every byte of the buffer.
+fn answers(a: Ask, key: &[u8], side: &[u8], text: &[u8], want: &[u8]) -> bool {
+    let room = a.room;
+    if 2048 < room {
         return false;
     }
+    if 2048 < want.len() {
+        return false;
+    }
+    let mut out = filled(b"");
     let mut length: usize = 2049;
-    let n = entry(f, suite, key, side, text, &mut out[0..room], &mut length);
-    if n as u64 != number {
+    let n = entry(
+        a.call,
+        a.suite,
+        key,
+        side,
+        text,
+        &mut out[0..room],
+        &mut length,
+    );
+    if n as u64 != a.number {
         return false;
     }
     if length != want.len() {
         return false;
     }
-    holds(out, want)
-}
-
-fn answers(
-    f: usize,
-    suite: u64,
-    number: u64,
-    room: usize,
-    key: &[u8],
-    side: &[u8],
-    text: &[u8],
-    want: &[u8],
-) -> bool {
-    let mut out = [0xA5u8; 2048];
-    answers_in(f, suite, number, room, key, side, text, want, &mut out)
-}
-
-fn chk_says(suite: u64, key: &[u8], tag: &[u8], text: &[u8], b: u8) -> bool {
-    let want = [b; 1];
-    answers(11, suite, 0, 1, key, tag, text, &want)
-}
-
-// Whether `chk` says 00 of each tag that differs from this one in one byte.
-fn others_are_wrong(suite: u64, key: &[u8], tag: &mut [u8], text: &[u8]) -> bool {
-    let mut i: usize = 0;
-    while i < tag.len() {
-        let b = tag[i];
-        tag[i] = b ^ 1;
-        if !chk_says(suite, key, tag, text, 0) {
-            return false;
-        }
-        tag[i] = b;
-        i += 1;
-    }
-    true
-}
-
-// Whether `chk` says 01 of a tag, and 00 of each tag that differs from it in one byte.
-fn only_right(suite: u64, key: &[u8], tag: &[u8], text: &[u8]) -> bool {
-    let mut room = [0u8; 64];
-    let copy: &mut [u8] = &mut room;
-    if copy.len() < tag.len() {
-        return false;
-    }
-    bytes::copy(tag, copy);
-    if !chk_says(suite, key, tag, text, 1) {
-        return false;
-    }
-    others_are_wrong(suite, key, &mut copy[0..tag.len()], text)
+    let due = filled(want);
+    check::same(&out, &due)
 }
 
 // The call that undoes call f.
@@ -198,63 +123,52 @@ fn back_of(f: usize) -> usize {
     }
 }
 
-// Whether what was answered goes back to the text; a tag, whole and its first 8 bytes, is the right one.
-fn goes_back(f: usize, suite: u64, key: &[u8], side: &[u8], text: &[u8], value: &[u8]) -> bool {
-    if f < 10 {
-        return answers(back_of(f), suite, 0, 2048, key, side, value, text);
+// Whether what was answered goes back to the text, by the call that undoes this one.
+fn goes_back(a: Ask, key: &[u8], side: &[u8], text: &[u8], value: &[u8]) -> bool {
+    if 10 <= a.call {
+        return true;
     }
-    if f == 10 {
-        if value.len() < 8 {
-            return false;
-        }
-        if !only_right(suite, key, value, text) {
-            return false;
-        }
-        return only_right(suite, key, &value[0..8], text);
-    }
-    true
+    let back = Ask {
+        call: back_of(a.call),
+        suite: a.suite,
+        number: 0,
+        room: 2048,
+    };
+    answers(back, key, side, value, text)
 }
 
 // Whether a row's call does what is due.
-fn does(
-    f: usize,
-    suite: u64,
-    number: u64,
-    room: u64,
-    key: &[u8],
-    side: &[u8],
-    text: &[u8],
-    want: &[u8],
-) -> bool {
-    if f == 12 {
-        return schedules::helper_is(suite, key, want);
-    }
-    if f == 13 {
-        return schedules::rounds_are(suite, key, want);
-    }
-    if f == 14 {
+fn does(a: Ask, key: &[u8], side: &[u8], text: &[u8], want: &[u8]) -> bool {
+    if 14 <= a.call {
         return false;
     }
-    if !answers(f, suite, number, room as usize, key, side, text, want) {
+    if 12 <= a.call {
+        return schedules::are(a.call == 12, a.suite, key, want);
+    }
+    if !answers(a, key, side, text, want) {
         return false;
     }
-    if number == 0 {
-        return goes_back(f, suite, key, side, text, want);
+    if a.number != 0 {
+        return true;
     }
-    true
+    goes_back(a, key, side, text, want)
 }
 
-// Whether a row whose key, side, text and bytes due stand one after another in b, up to these places, does what is due.
+fn ask_of(s: &[u8]) -> Ask {
+    Ask {
+        call: call_of(rows::word(s, 1)),
+        suite: rows::number(s, 2),
+        number: rows::number(s, 3),
+        room: rows::number(s, 4) as usize,
+    }
+}
+
+// Whether a row does what is due, with its key, side, text and bytes due one after another in b, up to these places.
 fn due_of(s: &[u8], b: &[u8], key: usize, side: usize, text: usize, want: usize) -> bool
     requires { ⌜ (key ≤ side) × (side ≤ text) × (text ≤ want) × (want ≤ length (now b)) ⌝ }
 {
-    let call = rows::field(s, 1);
-    let e = bytes::scan::find(s, call, s.len(), b' ');
     does(
-        call_of(&s[call..e]),
-        rows::number_at(s, rows::field(s, 2)),
-        rows::number_at(s, rows::field(s, 3)),
-        rows::number_at(s, rows::field(s, 4)),
+        ask_of(s),
         &b[0..key],
         &b[key..side],
         &b[side..text],
@@ -263,10 +177,10 @@ fn due_of(s: &[u8], b: &[u8], key: usize, side: usize, text: usize, want: usize)
 }
 
 fn right_in(s: &[u8], b: &mut [u8]) -> bool {
-    let key = rows::bytes_at(s, rows::field(s, 5), b, 0);
-    let side = rows::bytes_at(s, rows::field(s, 6), b, key);
-    let text = rows::bytes_at(s, rows::field(s, 7), b, side);
-    let want = rows::bytes_at(s, rows::field(s, 8), b, text);
+    let key = rows::bytes_in(s, 5, b, 0);
+    let side = rows::bytes_in(s, 6, b, key);
+    let text = rows::bytes_in(s, 7, b, side);
+    let want = rows::bytes_in(s, 8, b, text);
     due_of(s, b, key, side, text, want)
 }
 
@@ -280,81 +194,71 @@ fn say(name: &[u8], what: &[u8]) {
     io::write_all(STDOUT_FILENO, what);
 }
 
-fn sum(name: &[u8], t: Tally) {
-    say(name, b": ");
-    io::print_decimal(STDOUT_FILENO, t.right);
-    io::write_all(STDOUT_FILENO, b" of ");
-    io::print_decimal(STDOUT_FILENO, t.rows);
-    io::write_all(STDOUT_FILENO, b" as due");
-    if t.derived != 0 {
-        io::write_all(STDOUT_FILENO, b", ");
-        io::print_decimal(STDOUT_FILENO, t.derived);
-        io::write_all(STDOUT_FILENO, b" of them derived");
-    }
-    io::write_all(STDOUT_FILENO, b"\n");
+fn count(n: u64, what: &[u8]) {
+    io::print_decimal(STDOUT_FILENO, n);
+    io::write_all(STDOUT_FILENO, what);
 }
 
-// A row run, its line said, and the tally with it.
-fn run(line: &[u8], t: Tally) -> Tally {
+fn sum(name: &[u8], right: u64, rows: u64) {
+    say(name, b": ");
+    count(right, b" of ");
+    count(rows, b" right\n");
+}
+
+// A row whose name ends at e and whose kind stands at k, run and told of: 1 where it is right.
+fn told(line: &[u8], e: usize, k: usize) -> u64
+    requires { ⌜ (e ≤ length (now line)) × (k < length (now line)) ⌝ }
+{
+    if !right(&line[k..]) {
+        say(line, b": WRONG\n");
+        return 0;
+    }
+    if line[k] == b'p' {
+        say(&line[0..e], b": right\n");
+    }
+    1
+}
+
+// A row run, or those before it summed up: 2 then.
+fn run(line: &[u8], right: u64, rows: u64) -> u64 {
     let e = bytes::scan::find(line, 0, line.len(), b':');
     let k = rows::after(line, e);
     if k == line.len() {
-        return t;
-    }
-    let name = &line[0..e];
-    let kind = line[k];
-    if kind == b'=' {
-        sum(name, t);
-        return Tally {
-            rows: 0,
-            right: 0,
-            derived: 0,
-        };
-    }
-    let rows = std::num::wrapping_add_u64(t.rows, 1);
-    if !right(&line[k..]) {
         say(line, b": WRONG\n");
-        return Tally {
-            rows: rows,
-            right: t.right,
-            derived: t.derived,
-        };
+        return 0;
     }
-    let good = std::num::wrapping_add_u64(t.right, 1);
-    if kind == b'd' {
-        say(name, b": derived, as due\n");
-        return Tally {
-            rows: rows,
-            right: good,
-            derived: std::num::wrapping_add_u64(t.derived, 1),
-        };
+    if line[k] != b'=' {
+        return told(line, e, k);
     }
-    if kind == b'p' {
-        say(name, b": as printed\n");
-    }
-    Tally {
-        rows: rows,
-        right: good,
-        derived: t.derived,
-    }
+    sum(&line[0..e], right, rows);
+    2
 }
 
 fn run_all(s: &[u8]) {
-    let mut t = Tally {
-        rows: 0,
-        right: 0,
-        derived: 0,
-    };
+    let mut right: u64 = 0;
+    let mut rows: u64 = 0;
     let mut p: usize = 0;
     while p < s.len() {
         let e = bytes::scan::find(s, p, s.len(), b'\n');
-        t = run(&s[p..e], t);
+        let r = run(&s[p..e], right, rows);
+        right = std::num::wrapping_add_u64(right, r);
+        rows = std::num::wrapping_add_u64(rows, 1);
+        if r == 2 {
+            right = 0;
+            rows = 0;
+        }
         p = e + 1;
     }
 }
 
+fn room() -> [u8; 262144]
+    ensures { λ r. ⌜ 262144 ≡ length r ⌝ }
+{
+    [0u8; 262144]
+}
+
 fn main() {
-    let mut buffer = [0u8; 262144];
-    let n = io::read_full(STDIN_FILENO, &mut buffer);
-    run_all(&buffer[0..n]);
+    let mut table = room();
+    let n = io::read_full(STDIN_FILENO, &mut table);
+    run_all(&table[0..n]);
 }

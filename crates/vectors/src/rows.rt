@@ -21,7 +21,7 @@ pub(crate) fn after(s: &[u8], p: usize) -> usize
 }
 
 // Where field n begins, from 0 on.
-pub(crate) fn field(s: &[u8], n: usize) -> usize
+fn field(s: &[u8], n: usize) -> usize
     ensures { λ r. ⌜ r ≤ length (now (s .entry)) ⌝ }
 {
     let mut p: usize = 0;
@@ -38,12 +38,24 @@ fn grown(v: u64, b: usize) -> u64 {
     v % 72057594037927936 * 256 + (b % 256) as u64
 }
 
-// The number that pairs of digits spell from p on, high byte first.
-pub(crate) fn number_at(s: &[u8], p: usize) -> u64
-    requires { ⌜ p ≤ length (now s) ⌝ }
-{
+// The bytes of field n as a number.
+pub(crate) fn word(s: &[u8], n: usize) -> u64 {
     let mut v: u64 = 0;
-    let mut i = p;
+    let mut i = field(s, n);
+    while i < s.len() {
+        if s[i] == b' ' {
+            return v;
+        }
+        v = grown(v, tokens::wide(s[i]));
+        i += 1;
+    }
+    v
+}
+
+// The number that pairs of digits spell in field n, high byte first.
+pub(crate) fn number(s: &[u8], n: usize) -> u64 {
+    let mut v: u64 = 0;
+    let mut i = field(s, n);
     while 2 <= s.len() - i {
         let b = tokens::pair_at(s, i);
         if 256 <= b {
@@ -107,12 +119,12 @@ fn times(high: usize, low: usize) -> usize {
     high % 256 * 256 + low % 256
 }
 
-// The bytes that are spelt from p on, put from o on; gives where they end.
-pub(crate) fn bytes_at(s: &[u8], p: usize, out: &mut [u8], o: usize) -> usize
-    requires { ⌜ (p ≤ length (now s)) × (o ≤ length (now out)) ⌝ }
+// The bytes that field n spells, put from o on; gives where they end.
+pub(crate) fn bytes_in(s: &[u8], n: usize, out: &mut [u8], o: usize) -> usize
+    requires { ⌜ o ≤ length (now out) ⌝ }
     ensures { λ r. ⌜ (o ≤ r) × (r ≤ length (now (out .exit))) ⌝ }
 {
-    let mut i = p;
+    let mut i = field(s, n);
     let mut at = o;
     while 2 <= s.len() - i {
         let b = tokens::pair_at(s, i);

@@ -7,13 +7,14 @@ use Rattle.vectors.proofs.run_all.Tie as tie
 use Rattle.vectors.proofs.run_all.Reads as reads
 use Rattle.vectors.proofs.run_all.Lts as lts
 use Rattle.bytes.proofs.scan.find.Reads as find-reads
+use Rattle.std.proofs.num.wrapping_add_u64.Reads as wrapping-add-u64-reads
 use Rattle.vectors.proofs.run.Reads as run-reads
 
 abbrev Inv-loop : tie.InvT-loop
-Inv-loop s t₀ p₀ t p = p ≤ length s + 1
+Inv-loop s right₀ rows₀ p₀ right rows p = p ≤ length s + 1
 
 abbrev μ-loop : tie.MeasureT-loop
-μ-loop s t₀ p₀ t p = length s + 1 - p
+μ-loop s right₀ rows₀ p₀ right rows p = length s + 1 - p
 
 loop-holds : tie.Need-loop-holds Inv-loop μ-loop
 loop-holds c = search needs
@@ -32,6 +33,12 @@ part-run-end c = search needs
 
 run-requires : tie.Need-run-requires Inv-loop μ-loop
 run-requires c κs = search needs
+
+wrapping-add-u64-requires : tie.Need-wrapping-add-u64-requires Inv-loop μ-loop
+wrapping-add-u64-requires c κs = search needs
+
+wrapping-add-u64-requires-2 : tie.Need-wrapping-add-u64-requires-2 Inv-loop μ-loop
+wrapping-add-u64-requires-2 c κs = search needs
 
 add-p : tie.Need-add-p Inv-loop μ-loop
 add-p c = search needs
@@ -57,6 +64,8 @@ run-all-spec =
     part-run-start
     part-run-end
     run-requires
+    wrapping-add-u64-requires
+    wrapping-add-u64-requires-2
     add-p
     loop-less
     loop-again

@@ -1,11 +1,12 @@
 use borrow.Author.Needs.{needs}
-use Prim.Native.Nat.{_-_, _≤_}
+use Prim.Native.Nat.{_+_, _-_, _≤_}
 use lib.ListN.{length}
+use mathlib.Core.Path.{_≡_}
 use Rattle.vectors.proofs.schedules.columns_are.Statement.{statement}
 use Rattle.vectors.proofs.schedules.columns_are.Tie as tie
 use Rattle.vectors.proofs.schedules.columns_are.Reads as reads
 use Rattle.vectors.proofs.schedules.columns_are.Lts as lts
-use Rattle.vectors.proofs.schedules.byte_of.Reads as byte-of-reads
+use Rattle.loads.proofs.column_at.Reads as column-at-reads
 
 abbrev Inv-loop : tie.InvT-loop
 Inv-loop ks want i₀ i = i ≤ length want
@@ -16,20 +17,20 @@ abbrev μ-loop : tie.MeasureT-loop
 loop-holds : tie.Need-loop-holds Inv-loop μ-loop
 loop-holds c = search needs
 
+sub-loop : tie.Need-sub-loop Inv-loop μ-loop
+sub-loop c = search needs
+
 returns : tie.Need-returns Inv-loop μ-loop
 returns c = search needs
 
-mul-byte-of : tie.Need-mul-byte-of Inv-loop μ-loop
-mul-byte-of c = search needs
-
-shared-slice-read-byte-of : tie.Need-shared-slice-read-byte-of Inv-loop μ-loop
-shared-slice-read-byte-of c = search needs
-
-byte-of-requires : tie.Need-byte-of-requires Inv-loop μ-loop
-byte-of-requires c κs = search needs
+mul-if2 : tie.Need-mul-if2 Inv-loop μ-loop
+mul-if2 c = search needs
 
 shared-slice-read-if2 : tie.Need-shared-slice-read-if2 Inv-loop μ-loop
 shared-slice-read-if2 c = search needs
+
+column-at-requires : tie.Need-column-at-requires Inv-loop μ-loop
+column-at-requires c κs = search needs
 
 returns-2 : tie.Need-returns-2 Inv-loop μ-loop
 returns-2 c = search needs
@@ -53,11 +54,11 @@ columns-are-spec =
     Inv-loop
     μ-loop
     loop-holds
+    sub-loop
     returns
-    mul-byte-of
-    shared-slice-read-byte-of
-    byte-of-requires
+    mul-if2
     shared-slice-read-if2
+    column-at-requires
     returns-2
     add-i
     loop-less
