@@ -221,7 +221,7 @@ fn cipher_tables(slices: usize, progress: &mut Progress) -> String {
     format!("{modes}\nOne block:\n\n{blocks}")
 }
 
-/// A recipe that is often wanted, the values of a row, and the cipher calls that a run makes.
+/// A recipe that is often wanted, and the cipher calls that a run of it makes.
 struct Typical {
     what: &'static str,
     text: &'static str,
@@ -229,7 +229,22 @@ struct Typical {
     calls: &'static [(Call, usize)],
 }
 
-const TYPICAL: [Typical; 4] = [
+const TYPICAL: [Typical; 7] = [
+    Typical {
+        what: "a leaf",
+        text: "$0",
+        calls: &[],
+    },
+    Typical {
+        what: "two leaves",
+        text: "cat($0,$1)",
+        calls: &[],
+    },
+    Typical {
+        what: "a constant in front",
+        text: "cat('41',$0)",
+        calls: &[],
+    },
     Typical {
         what: "seal, IV in front",
         text: "cat(@0,ctr.3(#0,@0,$0))",
