@@ -208,7 +208,7 @@ fn odd_keys(ks: &mut [u64], c: usize, n: usize)
 }
 
 // Round keys 0 to r of a key of kc columns, c columns each; the rest is zeros.
-pub fn schedule(t: &[u8; 8192], key: &[u8], c: usize, kc: usize, r: usize) -> [u64; 160]
+fn schedule_for(t: &[u8; 8192], key: &[u8], c: usize, kc: usize, r: usize) -> [u64; 160]
     requires { ⌜ (now t ≡ sealTable) × Sized c kc × (length (now key) ≡ 8 * kc) × (r % 2 ≡ 0) × (r ≤ 18) ⌝ }
     ensures { λ w. ⌜ w ≡ scheduleOf c kc r (columnsOf kc (now (key .entry))) ⌝ }
 {
@@ -219,4 +219,18 @@ pub fn schedule(t: &[u8; 8192], key: &[u8], c: usize, kc: usize, r: usize) -> [u
     even_keys(t, &mut ks, &h, &k[..kc], c, kc, r / 2 + 1);
     odd_keys(&mut ks, c, r / 2);
     ks
+}
+
+// The same, by case once a cell, so that every loop over columns is straight.
+pub fn schedule(t: &[u8; 8192], key: &[u8], c: usize, kc: usize, r: usize) -> [u64; 160]
+    requires { ⌜ (now t ≡ sealTable) × Sized c kc × (length (now key) ≡ 8 * kc) × (r % 2 ≡ 0) × (r ≤ 18) ⌝ }
+    ensures { λ w. ⌜ w ≡ scheduleOf c kc r (columnsOf kc (now (key .entry))) ⌝ }
+{
+    if c == 2 {
+        return schedule_for(t, key, 2, kc, r);
+    }
+    if c == 4 {
+        return schedule_for(t, key, 4, kc, r);
+    }
+    schedule_for(t, key, 8, kc, r)
 }

@@ -92,9 +92,9 @@ seal-is c n t ks s s′ s″ s‴ a b d =
     (λ i l. ap (λ p. addKey c (keyAt c ks (c * t)) (ssm (moves c) c (rounds c (keysOf c ks) (addKey c (keyAt c ks p) (blockAt c s i)) (t - 1)))) (sym (mul-zero c)))
     (walk-then c n _ _ s s″ s‴ (walk-then c n _ _ s s′ s″ a b) d)
 
--- rounds at a width
-pub rounds-at : (c d n t : ℕ) (ks s s′ : List ℕ) → c ≡ d → Walked d n (λ x. rounds d (keysOf d ks) x (t - 1)) s s′ → Walked c n (λ x. rounds c (keysOf c ks) x (t - 1)) s s′
-rounds-at c d n t ks s s′ e w = subst (λ c. Walked c n (λ x. rounds c (keysOf c ks) x (t - 1)) s s′) (sym e) w
+-- sealed at a width
+pub seal-at : (c d n t : ℕ) (ks s s′ : List ℕ) → c ≡ d → Walked d n (seal d t (keysOf d ks)) s s′ → Walked c n (seal c t (keysOf c ks)) s s′
+seal-at c d n t ks s s′ e w = subst (λ c. Walked c n (seal c t (keysOf c ks)) s s′) (sym e) w
 
 pub room-at : (c d n t l m : ℕ) → c ≡ d → 4 * (c * n) ≤ l → c * (t + 1) ≤ m → (4 * (d * n) ≤ l) × (d * (t + 1) ≤ m)
 room-at c d n t l m e h g = subst (λ d. (4 * (d * n) ≤ l) × (d * (t + 1) ≤ m)) e (h, g)

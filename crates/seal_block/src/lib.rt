@@ -25,7 +25,7 @@ pub fn round(tab: &[u8; 8192], s: &mut [u16], n: usize, c: usize, ks: &[u64], at
     seal_rounds::walk8(tab, s, n, ks, at);
 }
 
-// Rounds 1 to t - 1 of t on blocks of 2 columns: by case once a cell, not once a round.
+// Rounds 1 to t - 1 of t on blocks of 2 columns.
 fn rounds2(tab: &[u8; 8192], s: &mut [u16], n: usize, t: usize, ks: &[u64])
     requires { ⌜ (now tab ≡ sealTable) × (0 < t) × (4 * (2 * n) ≤ length (now s)) × (2 * (t + 1) ≤ length (now ks)) ⌝ }
     ensures { λ r. ⌜ Walked 2 n (λ x. rounds 2 (keysOf 2 (now (ks .entry))) x (t - 1)) (now (s .entry)) (now (s .exit)) ⌝ }
@@ -67,22 +67,6 @@ fn rounds8(tab: &[u8; 8192], s: &mut [u16], n: usize, t: usize, ks: &[u64])
     }
 }
 
-// Rounds 1 to t - 1 of t.
-fn rounds_of(tab: &[u8; 8192], s: &mut [u16], n: usize, c: usize, t: usize, ks: &[u64])
-    requires { ⌜ (now tab ≡ sealTable) × Width c × (0 < t) × (4 * (c * n) ≤ length (now s)) × (c * (t + 1) ≤ length (now ks)) ⌝ }
-    ensures { λ r. ⌜ Walked c n (λ x. rounds c (keysOf c (now (ks .entry))) x (t - 1)) (now (s .entry)) (now (s .exit)) ⌝ }
-{
-    if c == 2 {
-        rounds2(tab, s, n, t, ks);
-        return;
-    }
-    if c == 4 {
-        rounds4(tab, s, n, t, ks);
-        return;
-    }
-    rounds8(tab, s, n, t, ks);
-}
-
 // The last round, whose key is added modulo 2^64.
 fn last_round(tab: &[u8; 8192], s: &mut [u16], n: usize, c: usize, ks: &[u64], at: usize)
     requires { ⌜ (now tab ≡ sealTable) × Width c × (4 * (c * n) ≤ length (now s)) × (at + c ≤ length (now ks)) ⌝ }
@@ -93,12 +77,48 @@ fn last_round(tab: &[u8; 8192], s: &mut [u16], n: usize, c: usize, ks: &[u64], a
     blocks::add_keys(s, n, c, ks, at);
 }
 
-// The block transformation on n blocks of c columns, t rounds; ks has the round keys 0 to t one after another.
+// Blocks of 2 columns.
+fn seal2(tab: &[u8; 8192], s: &mut [u16], n: usize, t: usize, ks: &[u64])
+    requires { ⌜ (now tab ≡ sealTable) × (0 < t) × (4 * (2 * n) ≤ length (now s)) × (2 * (t + 1) ≤ length (now ks)) × (t ≤ 18) ⌝ }
+    ensures { λ r. ⌜ Walked 2 n (seal 2 t (keysOf 2 (now (ks .entry)))) (now (s .entry)) (now (s .exit)) ⌝ }
+{
+    blocks::add_keys(s, n, 2, ks, 0);
+    rounds2(tab, s, n, t, ks);
+    last_round(tab, s, n, 2, ks, 2 * t);
+}
+
+// Blocks of 4 columns.
+fn seal4(tab: &[u8; 8192], s: &mut [u16], n: usize, t: usize, ks: &[u64])
+    requires { ⌜ (now tab ≡ sealTable) × (0 < t) × (4 * (4 * n) ≤ length (now s)) × (4 * (t + 1) ≤ length (now ks)) × (t ≤ 18) ⌝ }
+    ensures { λ r. ⌜ Walked 4 n (seal 4 t (keysOf 4 (now (ks .entry)))) (now (s .entry)) (now (s .exit)) ⌝ }
+{
+    blocks::add_keys(s, n, 4, ks, 0);
+    rounds4(tab, s, n, t, ks);
+    last_round(tab, s, n, 4, ks, 4 * t);
+}
+
+// Blocks of 8 columns.
+fn seal8(tab: &[u8; 8192], s: &mut [u16], n: usize, t: usize, ks: &[u64])
+    requires { ⌜ (now tab ≡ sealTable) × (0 < t) × (4 * (8 * n) ≤ length (now s)) × (8 * (t + 1) ≤ length (now ks)) × (t ≤ 18) ⌝ }
+    ensures { λ r. ⌜ Walked 8 n (seal 8 t (keysOf 8 (now (ks .entry)))) (now (s .entry)) (now (s .exit)) ⌝ }
+{
+    blocks::add_keys(s, n, 8, ks, 0);
+    rounds8(tab, s, n, t, ks);
+    last_round(tab, s, n, 8, ks, 8 * t);
+}
+
+// The block transformation on n blocks of c columns, t rounds; ks has the round keys 0 to t one after another. By case once a cell, so that every loop over columns is straight.
 pub fn seal_blocks(tab: &[u8; 8192], s: &mut [u16], n: usize, c: usize, t: usize, ks: &[u64])
     requires { ⌜ (now tab ≡ sealTable) × Width c × (0 < t) × (4 * (c * n) ≤ length (now s)) × (c * (t + 1) ≤ length (now ks)) × (t ≤ 18) ⌝ }
     ensures { λ r. ⌜ Walked c n (seal c t (keysOf c (now (ks .entry)))) (now (s .entry)) (now (s .exit)) ⌝ }
 {
-    blocks::add_keys(s, n, c, ks, 0);
-    rounds_of(tab, s, n, c, t, ks);
-    last_round(tab, s, n, c, ks, c * t);
+    if c == 2 {
+        seal2(tab, s, n, t, ks);
+        return;
+    }
+    if c == 4 {
+        seal4(tab, s, n, t, ks);
+        return;
+    }
+    seal8(tab, s, n, t, ks);
 }

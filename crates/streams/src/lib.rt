@@ -71,7 +71,7 @@ fn count(e: &[u16], s: &mut [u16], w: usize, c: usize, x: u64)
 }
 
 // Counters 1 to n.
-fn counters(e: &[u16], s: &mut [u16], n: usize, c: usize)
+fn counters_for(e: &[u16], s: &mut [u16], n: usize, c: usize)
     requires { ⌜ (4 * c ≤ length (now e)) × (4 * (c * n) ≤ length (now s)) ⌝ }
     ensures { λ r. ⌜ Laid c n (λ i. tab c (counted (now (e .entry)) (i + 1))) (now (s .entry)) (now (s .exit)) ⌝ }
 {
@@ -82,6 +82,22 @@ fn counters(e: &[u16], s: &mut [u16], n: usize, c: usize)
         w += c;
         i += 1;
     }
+}
+
+// The same, by case once a cell, so that the loop over columns is straight.
+fn counters(e: &[u16], s: &mut [u16], n: usize, c: usize)
+    requires { ⌜ (4 * c ≤ length (now e)) × (4 * (c * n) ≤ length (now s)) × Width c ⌝ }
+    ensures { λ r. ⌜ Laid c n (λ i. tab c (counted (now (e .entry)) (i + 1))) (now (s .entry)) (now (s .exit)) ⌝ }
+{
+    if c == 2 {
+        counters_for(e, s, n, 2);
+        return;
+    }
+    if c == 4 {
+        counters_for(e, s, n, 4);
+        return;
+    }
+    counters_for(e, s, n, 8);
 }
 
 // The gammas of n blocks.

@@ -6,7 +6,7 @@ use denote.Ref.{now}
 use Rattle.words.specs.Words.{Walked}
 use Rattle.kalyna.specs.Block.{rounds}
 use Rattle.blocks.specs.Blocks.{keysOf}
-use Rattle.seal_block.proofs.Laws.{round-at, rounds-more, rounds-none, key-room, next-key, rounds-at, room-at, eight-is}
+use Rattle.seal_block.proofs.Laws.{round-at, rounds-more, rounds-none, key-room, next-key}
 use borrow.Author.Needs.{needs}
 use Rattle.seal_block.proofs.rounds4.Statement.{statement}
 use Rattle.seal_block.proofs.rounds4.Tie as tie

@@ -1,73 +1,63 @@
-use borrow.Author.Needs.{needs}
-use mathlib.Core.Path.{_≡_, refl, sym, ap, subst, _∙_}
-use Prim.Native.Nat.{_+_, _-_, _*_, _/_, _≤_}
-use native.Mathlib.Omega.{arith}
+use mathlib.Core.Path.{sym, subst}
+use Prim.Native.Nat.{_+_, _*_, _≤_}
+use lib.ListN.{length}
 use denote.Ref.{now}
 use Rattle.common.specs.Places.{tab}
-use Rattle.words.specs.Words.{putWords}
+use Rattle.seal_block.proofs.Laws.{eight-is}
 use Rattle.stream_laws.specs.Gammas.{counted, Laid}
-use Rattle.stream_laws.proofs.Cells as cells
-use Rattle.stream_laws.proofs.Counting as counting
-use native.Mathlib.Nat.{mul-zero, mul-suc}
-use native.Mathlib.Numerals.{add-one}
-use Rattle.stream_laws.proofs.Widths.{next-block}
+use borrow.Author.Needs.{needs}
 use Rattle.streams.proofs.counters.Statement.{statement}
 use Rattle.streams.proofs.counters.Tie as tie
+use Rattle.streams.proofs.counters.Reads as reads
+use Rattle.streams.proofs.counters.Lts as lts
+use Rattle.streams.proofs.counters_for.Reads as counters-for-reads
 
-abbrev Inv-loop : tie.InvT-loop
-Inv-loop e s₀ n c i₀ w₀ s i w = (i ≤ n) × (w ≡ c * i) × Laid c i (λ i. tab c (counted e (i + 1))) s₀ s
+-- src/lib.rt:93:9
+counters-for-requires : tie.Need-counters-for-requires
+counters-for-requires c κs = subst (λ d. (4 * d ≤ length (now (c .before .before .before .before .args .e))) × (4 * (d * c .before .before .before .before .args .n) ≤ length (now (c .before .before .before .before .args .s)))) (c .before .if1 .taken) (c .before .before .before .before .pre .0, c .before .before .before .before .pre .1)
 
-abbrev μ-loop : tie.MeasureT-loop
-μ-loop e s₀ n c i₀ w₀ s i w = n - i
+-- src/lib.rt:94:9
+same-length : tie.Need-same-length
+same-length c = search needs
 
--- src/lib.rt:80:5
-loop-holds : tie.Need-loop-holds Inv-loop μ-loop
-loop-holds c = (omega arith, sym (mul-zero (c .before .before .args .c)), cells.laid-none (c .before .before .args .c) (λ i. tab (c .before .before .args .c) (counted (now (c .before .before .args .e)) (i + 1))) (now (c .before .before .args .s)))
+-- src/lib.rt:94:9
+returns : tie.Need-returns
+returns c = subst (λ d. Laid d (c .before .before .before .before .before .before .before .args .n) (λ i. tab d (counted (now (c .before .before .before .before .before .before .before .args .e)) (i + 1))) (now (c .before .before .before .before .before .before .before .args .s)) (c .before .before .counters-for .last .1 .0)) (sym (c .before .before .before .before .if1 .taken)) (c .before .before .counters-for .ensures)
 
--- src/lib.rt:81:28
-add-count : tie.Need-add-count Inv-loop μ-loop
-add-count c = search needs
+-- src/lib.rt:97:9
+counters-for-requires-2 : tie.Need-counters-for-requires-2
+counters-for-requires-2 c κs = subst (λ d. (4 * d ≤ length (now (c .before .before .before .before .before .args .e))) × (4 * (d * c .before .before .before .before .before .args .n) ≤ length (now (c .before .before .before .before .before .args .s)))) (c .before .if2 .taken) (c .before .before .before .before .before .pre .0, c .before .before .before .before .before .pre .1)
 
--- src/lib.rt:81:9
-count-requires : tie.Need-count-requires Inv-loop μ-loop
-count-requires c κs = (c .before .before .before .before .before .pre .0, omega (arith, c .before .before .loop .inv .1, c .before .before .loop .inv .2 .long, c .before .before .before .before .before .pre .1, next-block (c .before .before .before .before .before .args .c) (c .before .before .loop .i) (c .before .before .before .before .before .args .n) (omega arith)))
+-- src/lib.rt:98:9
+same-length-2 : tie.Need-same-length-2
+same-length-2 c = search needs
 
--- src/lib.rt:82:9
-add-w : tie.Need-add-w Inv-loop μ-loop
-add-w c = omega (arith, c .before .before .before .before .before .loop .inv .1, c .before .before .before .before .before .before .before .before .pre .1, c .before .before .before .before .before .before .before .before .good, next-block (c .before .before .before .before .before .before .before .before .args .c) (c .before .before .before .before .before .loop .i) (c .before .before .before .before .before .before .before .before .args .n) (omega arith))
+-- src/lib.rt:98:9
+returns-2 : tie.Need-returns-2
+returns-2 c = subst (λ d. Laid d (c .before .before .before .before .before .before .before .before .args .n) (λ i. tab d (counted (now (c .before .before .before .before .before .before .before .before .args .e)) (i + 1))) (now (c .before .before .before .before .before .before .before .before .args .s)) (c .before .before .counters-for2 .last .1 .0)) (sym (c .before .before .before .before .if2 .taken)) (c .before .before .counters-for2 .ensures)
 
--- src/lib.rt:83:9
-add-i : tie.Need-add-i Inv-loop μ-loop
-add-i c = search needs
+-- src/lib.rt:100:5
+counters-for-requires-3 : tie.Need-counters-for-requires-3
+counters-for-requires-3 c κs = subst (λ d. (4 * d ≤ length (now (c .before .before .before .before .before .args .e))) × (4 * (d * c .before .before .before .before .before .args .n) ≤ length (now (c .before .before .before .before .before .args .s)))) (eight-is (c .before .before .before .before .before .args .c) (c .before .before .before .before .before .pre .2) (c .before .before .if1 .left) (c .before .if2 .left)) (c .before .before .before .before .before .pre .0, c .before .before .before .before .before .pre .1)
 
--- src/lib.rt:80:5
-loop-less : tie.Need-loop-less Inv-loop μ-loop
-loop-less c = search needs
+-- src/lib.rt:88:1
+same-length-3 : tie.Need-same-length-3
+same-length-3 c = search needs
 
--- src/lib.rt:80:5
-loop-again : tie.Need-loop-again Inv-loop μ-loop
-loop-again c = (omega arith, ap (λ x. x + c .before .before .before .before .before .before .before .before .args .c) (c .before .before .before .before .before .loop .inv .1) ∙ sym (mul-suc (c .before .before .before .before .before .before .before .before .args .c) (c .before .before .before .before .before .loop .i)) ∙ ap (λ x. (c .before .before .before .before .before .before .before .before .args .c) * x) (sym (add-one (c .before .before .before .before .before .loop .i))), cells.laid-more (c .before .before .before .before .before .before .before .before .args .c) (c .before .before .before .before .before .loop .i) (λ i. tab (c .before .before .before .before .before .before .before .before .args .c) (counted (now (c .before .before .before .before .before .before .before .before .args .e)) (i + 1))) (counted (now (c .before .before .before .before .before .before .before .before .args .e)) (c .before .before .before .before .before .loop .i + 1)) (now (c .before .before .before .before .before .before .before .before .args .s)) (c .before .before .before .before .before .loop .s) (c .before .before .count .last .1 .0) (c .before .before .before .before .before .loop .inv .2) (omega (arith, c .before .before .before .before .before .before .before .before .pre .1, next-block (c .before .before .before .before .before .before .before .before .args .c) (c .before .before .before .before .before .loop .i) (c .before .before .before .before .before .before .before .before .args .n) (omega arith))) (subst (λ w. c .before .before .count .last .1 .0 ≡ putWords (c .before .before .before .before .before .loop .s) w (c .before .before .before .before .before .before .before .before .args .c) (counted (now (c .before .before .before .before .before .before .before .before .args .e)) (c .before .before .before .before .before .loop .i + 1))) (c .before .before .before .before .before .loop .inv .1) (c .before .before .count .ensures)) (λ k l. counting.counted-lt (now (c .before .before .before .before .before .before .before .before .args .e)) (c .before .before .before .before .before .loop .i + 1) k) refl)
-
--- src/lib.rt:74:1
-same-length : tie.Need-same-length Inv-loop μ-loop
-same-length c = c .before .loop .inv .2 .long
-
--- src/lib.rt:74:1
-returns : tie.Need-returns Inv-loop μ-loop
-returns c = subst (λ n. Laid (c .before .before .before .before .args .c) n (λ i. tab (c .before .before .before .before .args .c) (counted (now (c .before .before .before .before .args .e)) (i + 1))) (now (c .before .before .before .before .args .s)) (c .before .loop .s)) (omega arith) (c .before .loop .inv .2)
+-- src/lib.rt:88:1
+returns-3 : tie.Need-returns-3
+returns-3 c = subst (λ d. Laid d (c .before .before .before .before .before .before .before .before .args .n) (λ i. tab d (counted (now (c .before .before .before .before .before .before .before .before .args .e)) (i + 1))) (now (c .before .before .before .before .before .before .before .before .args .s)) (c .before .before .counters-for3 .last .1 .0)) (sym (eight-is (c .before .before .before .before .before .before .before .before .args .c) (c .before .before .before .before .before .before .before .before .pre .2) (c .before .before .before .before .before .if1 .left) (c .before .before .before .before .if2 .left))) (c .before .before .counters-for3 .ensures)
 
 pub counters-spec : {M : Type 1} → statement M
 counters-spec =
     tie.close
     (tie.spec
-    Inv-loop
-    μ-loop
-    loop-holds
-    add-count
-    count-requires
-    add-w
-    add-i
-    loop-less
-    loop-again
+    counters-for-requires
     same-length
-    returns)
+    returns
+    counters-for-requires-2
+    same-length-2
+    returns-2
+    counters-for-requires-3
+    same-length-3
+    returns-3)

@@ -13,7 +13,7 @@ seal-bytes-requires c κs = (c .before .before .before .before .before .pre .0, 
 
 -- src/lib.rt:93:5
 counters-requires : tie.Need-counters-requires
-counters-requires c κs = (omega (arith, c .before .before .before .before .seal-bytes .kept .1 .1 .1 .1 .1 .0, c .before .before .before .before .before .before .before .before .before .before .pre .6), c .before .before .before .before .before .before .before .before .before .before .pre .7)
+counters-requires c κs = (omega (arith, c .before .before .before .before .seal-bytes .kept .1 .1 .1 .1 .1 .0, c .before .before .before .before .before .before .before .before .before .before .pre .6), c .before .before .before .before .before .before .before .before .before .before .pre .7, c .before .before .before .before .before .before .before .before .before .before .pre .1)
 
 -- src/lib.rt:94:5
 seal-blocks-requires : tie.Need-seal-blocks-requires
