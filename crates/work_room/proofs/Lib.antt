@@ -1,2 +1,3 @@
 -- Laws of clearing the work room.
 pub mod Zeros
+pub mod Maximum

@@ -1,45 +1,68 @@
-use mathlib.Core.Path.{_≡_, ap, _∙_}
+use mathlib.Core.Path.{_≡_, sym, ap, _∙_}
 use Prim.Native.Nat.{_≤_, _-_}
 use native.Mathlib.Omega.{arith}
 use Rattle.recipe.specs.Outcome.{zeroed}
-use Rattle.work_room.proofs.Zeros.{Zeroed, zero-none, zero-more}
-use borrow.Author.Needs.{needs}
+use Rattle.work_room.proofs.Zeros.{Zeroed, zero-none, zero-more, zero-already}
 use Rattle.work_room.proofs.clear.Statement.{statement}
 use Rattle.work_room.proofs.clear.Tie as tie
 
 abbrev Inv-loop : tie.InvT-loop
-Inv-loop work₀ n i₀ work i = (i ≤ n) × Zeroed work₀ i work
+Inv-loop work₀ n at₀ work at = (at ≤ n) × Zeroed work₀ at work
 
 abbrev μ-loop : tie.MeasureT-loop
-μ-loop work₀ n i₀ work i = n - i
+μ-loop work₀ n at₀ work at = n - at
 
--- src/lib.rt:13:5
+-- src/lib.rt:54:5
 loop-holds : tie.Need-loop-holds Inv-loop μ-loop
-loop-holds c = (omega arith, zero-none (c .args .work .now))
+loop-holds c = (omega arith, zero-none (c .before .args .work .now))
 
--- src/lib.rt:14:9
-slice-write-work : tie.Need-slice-write-work Inv-loop μ-loop
-slice-write-work c = let l = c .before .loop .inv .1 .long in let p = c .before .before .pre in omega arith
+-- src/lib.rt:55:13
+end-of-requires : tie.Need-end-of-requires Inv-loop μ-loop
+end-of-requires c κs = omega arith
 
--- src/lib.rt:15:9
-add-i : tie.Need-add-i Inv-loop μ-loop
-add-i c = let p = c .before .before .pre in omega (arith, c .before .before .good)
+-- src/lib.rt:56:16
+largest-requires : tie.Need-largest-requires Inv-loop μ-loop
+largest-requires c κs = let l = c .before .before .before .loop .inv .1 .long in (omega arith, omega arith)
 
--- src/lib.rt:13:5
+-- src/lib.rt:57:13
+zero-requires : tie.Need-zero-requires Inv-loop μ-loop
+zero-requires c κs = let l = c .before .before .before .before .before .before .loop .inv .1 .long in (omega arith, omega arith)
+
+-- src/lib.rt:54:5
 loop-less : tie.Need-loop-less Inv-loop μ-loop
-loop-less c = search needs
+loop-less c = omega arith
 
--- src/lib.rt:13:5
+-- src/lib.rt:54:5
 loop-again : tie.Need-loop-again Inv-loop μ-loop
-loop-again c = let p = c .before .before .pre in (omega arith, zero-more (c .before .before .args .work .now) (c .before .loop .i) (c .before .loop .work) (c .before .loop .inv .1) (omega arith))
+loop-again c =
+    let z = c .before .before .zero in
+    let l = c .before .before .before .before .before .before .before .before .before .loop in
+    (omega arith, zero-more (l .inv .1) (omega arith) (record { long = z .kept .0; is = z .ensures }))
 
--- src/lib.rt:8:1
+-- src/lib.rt:54:5
+loop-less-2 : tie.Need-loop-less-2 Inv-loop μ-loop
+loop-less-2 c = omega arith
+
+-- src/lib.rt:54:5
+loop-again-2 : tie.Need-loop-again-2 Inv-loop μ-loop
+loop-again-2 c =
+    let l = c .before .before .before .before .before .loop in
+    let w = l .inv .1 .long in
+    let m : c .before .largest .result ≡ 0 = omega arith in (
+      omega arith,
+      zero-more (l .inv .1) (omega arith)
+          (zero-already (l .work) (l .at) (c .before .before .before .end-of .result) (omega arith) (omega arith) (sym (c .before .largest .ensures) ∙ m)),
+    )
+
+-- src/lib.rt:49:1
 same-length : tie.Need-same-length Inv-loop μ-loop
 same-length c = c .before .loop .inv .1 .long
 
--- src/lib.rt:8:1
+-- src/lib.rt:49:1
 returns : tie.Need-returns Inv-loop μ-loop
-returns c = let e : c .before .loop .i ≡ c .before .before .args .n = omega arith in c .before .loop .inv .1 .is ∙ ap (λ m. zeroed m (c .before .before .args .work .now)) e
+returns c =
+    let e : c .before .loop .at ≡ c .before .before .before .args .n = omega arith in
+    c .before .loop .inv .1 .is ∙ ap (λ m. zeroed m (c .before .before .before .args .work .now)) e
 
 pub clear-spec : {M : Type 1} → statement M
 clear-spec =
@@ -48,9 +71,12 @@ clear-spec =
     Inv-loop
     μ-loop
     loop-holds
-    slice-write-work
-    add-i
+    end-of-requires
+    largest-requires
+    zero-requires
     loop-less
     loop-again
+    loop-less-2
+    loop-again-2
     same-length
     returns)
