@@ -72,7 +72,7 @@ fn fail(why: &str) -> ! {
 
 /// Crypto++ with the standard's modes over its block; without its header, or if it does not compile, there is no peer.
 fn build_peer(out: &Path) {
-    let source = "benches/peer.cpp";
+    let source = "benches/speed/peer.cpp";
     println!("cargo:rerun-if-changed={source}");
     println!("cargo:rerun-if-env-changed=CXX");
     let header = Path::new("/usr/include/cryptopp/kalyna.h");

@@ -83,7 +83,8 @@ fn mode(call: &str, suite: Suite, key: &[u8], iv: &[u8], text: &[u8]) -> Value {
     };
     check_text(text, judged)?;
     let whole_only = matches!(call, "cbc" | "uncbc" | "uncbp");
-    refuse_if(whole_only && text.len() % suite.block != 0, 5)?;
+    let past_blocks = text.len() % suite.block;
+    refuse_if(whole_only && past_blocks != 0, 5)?;
     let cipher = Cipher::new(suite, key);
     match call {
         "ctr" => {

@@ -93,9 +93,7 @@ pub fn uncbc(cipher: &Cipher, iv: &[u8], text: &[u8]) -> Vec<u8> {
 pub fn filled(text: &[u8], block: usize) -> Vec<u8> {
     let mut filled = text.to_vec();
     filled.push(0x80);
-    while filled.len() % block != 0 {
-        filled.push(0);
-    }
+    filled.resize(block * (text.len() / block + 1), 0);
     filled
 }
 
