@@ -7,6 +7,7 @@ use lib.ListN.{length, take, drop}
 use borrow.Author.Tests.{eq-eqb, ne-eqb}
 use Rattle.common.specs.Choice.{pick}
 use Rattle.common.specs.Answer.{Delivered, deliver}
+use Rattle.common.proofs.Choices.{pick-true, pick-false}
 use Rattle.tree.specs.Bounds.{Bytes, argumentsOf, whenKind}
 use Rattle.meaning.specs.Real.{cat, xor, eq, head, ciphered, realTwo, real}
 use Rattle.meaning.proofs.Plain.{real-valued}
@@ -18,14 +19,6 @@ use Rattle.answers.specs.Told.{toldOf}
 use Rattle.slots.proofs.Settling.{Led, led}
 use Rattle.applying.proofs.Numbering.{numberIn, two-cell, three-cell}
 use Rattle.applying.proofs.Loading.{slot-value}
-
-pick-true : {A : Type 0} (b : Bool) (x y : A) → b ≡ true → pick b x y ≡ x
-unfolding pick
-pick-true b x y e = rw e
-
-pick-false : {A : Type 0} (b : Bool) (x y : A) → b ≡ false → pick b x y ≡ y
-unfolding pick
-pick-false b x y e = rw e
 
 -- `call_two`
 module _ (k : ℕ) (a b out : List ℕ) (d : Delivered) where

@@ -11,6 +11,7 @@ use borrow.Rule.Slice.PartMut.{midOf, putMid}
 use Rattle.common.specs.Choice.{pick}
 use Rattle.common.specs.Answer.{Value, Answer, Delivered, then, refusal, deliver}
 use Rattle.common.specs.Answer.Answer.{value}
+use Rattle.common.proofs.Choices.{pick-true, pick-false}
 use Rattle.tree.specs.Tree.{Tree}
 use Rattle.tree.specs.Tree.Tree.{literal, bound, row, run, one, two, three, four, when}
 use Rattle.tree.specs.Bounds.{Bytes, depth, Proper, Small}
@@ -45,14 +46,6 @@ use Rattle.slots.proofs.Standing.{Has, has-of, refused-of, at-refused, kept-dow
 use Rattle.evaluating.specs.Stretch.{Stretch, Means, sideBy}
 use Rattle.evaluating.proofs.Shaped.{leaf-of}
 use Rattle.evaluating.proofs.Readied.{head-kind}
-
-pick-true : {A : Type 0} (b : Bool) (x y : A) → b ≡ true → pick b x y ≡ x
-unfolding pick
-pick-true b x y e = rw e
-
-pick-false : {A : Type 0} (b : Bool) (x y : A) → b ≡ false → pick b x y ≡ y
-unfolding pick
-pick-false b x y e = rw e
 
 -- ---- `give_leaf`
 

@@ -13,17 +13,10 @@ use Rattle.common.specs.Answer.{Value, Answer, Delivered, refusal, deliver}
 use Rattle.common.specs.Answer.Answer.{value, refused}
 use Rattle.common.proofs.Places.{tab-self}
 use Rattle.common.proofs.Runs.{Run, run-whole}
+use Rattle.common.proofs.Choices.{pick-true, pick-false}
 use Rattle.answers.specs.declared.Told.{Told}
 use Rattle.answers.specs.declared.Told.the-variants.{Done, Refused}
 use Rattle.answers.specs.Told.{numberOf, countOf, toldOf}
-
-pub pick-true : {A : Type 0} (b : Bool) (x y : A) → b ≡ true → pick b x y ≡ x
-unfolding pick
-pick-true b x y e = rw e
-
-pub pick-false : {A : Type 0} (b : Bool) (x y : A) → b ≡ false → pick b x y ≡ y
-unfolding pick
-pick-false b x y e = rw e
 
 -- a value that fits, one that does not, a refusal
 pub gives : (v out out′ : List ℕ) (n : ℕ) → n ≡ length v → n ≤ length out → out′ ≡ v ++ drop n out → toldOf (Done n) out′ ≡ deliver (value v) out

@@ -10,9 +10,9 @@ use lib.ListN.{length, take, drop, length-drop, length-take}
 use lib.Seq.{getD-drop, drop-drop}
 use borrow.Author.Tests.{lt-ltb, le-ltb, ltb-false}
 use Rattle.common.specs.Choice.{pick}
+use Rattle.common.proofs.Choices.{pick-true, pick-false}
 use Rattle.records.specs.Record.{word, Front, frontOf}
 use Rattle.records.specs.Record.Front.{front, cut}
-use Rattle.records.proofs.Shapes.{pick-true, pick-false}
 use Rattle.heads.specs.declared.Head.the-variants.{Record, Cut}
 use Rattle.heads.specs.Head.{headOf, headAt}
 

@@ -8,6 +8,7 @@ use lib.Dec.{eqb}
 use lib.ListN.{length, drop}
 use borrow.Author.Tests.{eqb-true, eqb-false, ne-eqb}
 use Rattle.common.specs.Choice.{pick}
+use Rattle.common.proofs.Choices.{pick-false}
 use Rattle.tree.specs.Tree.{Tree}
 use Rattle.tree.specs.Tree.Tree.{one, two, three, when}
 use Rattle.tree.specs.Bounds.{nodes, argumentsOf, whenKind}
@@ -15,7 +16,7 @@ use Rattle.tree.proofs.Table.{when-arguments}
 use Rattle.records.specs.Decode.{callShape, shapeOf, Item, thenItem, filled, oneIn, twoIn, threeIn, byShape}
 use Rattle.records.specs.Decode.Shape.{noShape}
 use Rattle.records.specs.Decode.Item.{item, noItem}
-use Rattle.records.proofs.Shapes.{pick-false, leaf-shapes, call-shape}
+use Rattle.records.proofs.Shapes.{leaf-shapes, call-shape}
 use Rattle.kinds.specs.Tables.{opens, tablesFor, tablesOf}
 use Rattle.kinds.proofs.Quick.{arguments-few}
 use Rattle.tree.specs.Bounds.{ofRow}

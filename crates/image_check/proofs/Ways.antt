@@ -9,6 +9,7 @@ use lib.ListN.{length, getD, take, drop, length-drop}
 use lib.Seq.{take-all}
 use borrow.Author.Tests.{eq-eqb, ne-eqb, le-leb, lt-leb, lt-ltb, le-ltb}
 use Rattle.common.specs.Choice.{pick}
+use Rattle.common.proofs.Choices.{pick-true, pick-false}
 use Rattle.tree.specs.Tree.{Tree}
 use Rattle.tree.specs.Tree.Tree.{bound, row, run}
 use Rattle.tree.specs.Bounds.{nodes, argumentsOf}
@@ -16,7 +17,7 @@ use Rattle.records.specs.Decode.{Shape, shapeOf, Item, thenFront, constantIn, d
 use Rattle.records.specs.Decode.Shape.{aConstant, aBound, aRow, aRun, noShape}
 use Rattle.records.specs.Decode.Item.{item, noItem}
 use Rattle.records.specs.Decode.Image.{image, noImage}
-use Rattle.records.proofs.Shapes.{pick-true, pick-false, leaf-shapes, bound-shape}
+use Rattle.records.proofs.Shapes.{leaf-shapes, bound-shape}
 use Rattle.heads.specs.declared.Head.{Head}
 use Rattle.heads.specs.declared.Head.the-variants.{Record, Cut}
 use Rattle.heads.specs.Head.{headAt}

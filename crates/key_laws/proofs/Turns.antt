@@ -17,6 +17,7 @@ use borrow.Author.Tests.{eq-eqb, ne-eqb}
 use Rattle.common.specs.Choice.{pick}
 use Rattle.common.specs.Places.{tab}
 use Rattle.common.proofs.Places.{getD-tab}
+use Rattle.common.proofs.Choices.{pick-true, pick-false}
 use Rattle.field.specs.Column.{byteOf, pack}
 use Rattle.field.proofs.PackLaws.{pack-ext, byteOf-zero, byteOf-suc}
 use Rattle.kalyna.specs.State.{State, columnsOf, bytesOf}
@@ -62,14 +63,6 @@ pub mask-lt : (c n : ℕ) → Width c → bitAnd n (c - 1) < c
 mask-lt c n w = subst (λ x. x < c) (sym (mask c n w)) (mod-lt n (width-pos c w))
 
 -- ---- what enters an even index
-
-pick-true : (b : Bool) (x y : List ℕ) → b ≡ true → pick b x y ≡ x
-unfolding pick
-pick-true b x y e = ap (λ b. pick b x y) e
-
-pick-false : (b : Bool) (x y : List ℕ) → b ≡ false → pick b x y ≡ y
-unfolding pick
-pick-false b x y e = ap (λ b. pick b x y) e
 
 pub same-turn : (c kc e : ℕ) → c ≡ kc → laneTurn c kc e ≡ e
 unfolding laneTurn pick

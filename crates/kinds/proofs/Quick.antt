@@ -6,6 +6,7 @@ use native.Mathlib.Omega.{arith}
 use lib.Dec.{eqb, leb, ltb}
 use borrow.Author.Tests.{eqb-true, eqb-false, eq-eqb, ne-eqb, le-leb, lt-leb, lt-ltb, le-ltb, ltb-true, ltb-false}
 use Rattle.common.specs.Choice.{pick}
+use Rattle.common.proofs.Choices.{pick-true, pick-false}
 use Rattle.tree.specs.Calls.{calls, plain, cipher}
 use Rattle.tree.specs.Bounds.{ofRow, argumentsIn, argumentsOf}
 use Rattle.tree.proofs.Table.{call-kind}
@@ -17,14 +18,6 @@ cipherArguments k = pick (eqb (k % 16) 0) 0 (pick (leb (k % 16) 5) (pick (leb k 
 unfoldable quick : ℕ → ℕ
 quick k =
     pick (ltb k 0x0010) 0 (pick (leb k 0x0013) 2 (pick (eqb k 0x0014) 3 (pick (ltb k 0x0100) 0 (pick (leb k 0x01B5) (cipherArguments k) 0))))
-
-pub pick-true : {A : Type 0} (b : Bool) (x y : A) → b ≡ true → pick b x y ≡ x
-unfolding pick
-pick-true b x y e = rw e
-
-pub pick-false : {A : Type 0} (b : Bool) (x y : A) → b ≡ false → pick b x y ≡ y
-unfolding pick
-pick-false b x y e = rw e
 
 -- whether a test holds below n
 unfoldable pub allBelow : ℕ → (ℕ → Bool) → Bool

@@ -8,9 +8,9 @@ use lib.Dec.{leb}
 use lib.ListN.{length, drop}
 use borrow.Author.Tests.{le-leb, lt-leb, leb-true, leb-false}
 use Rattle.common.specs.Choice.{pick}
+use Rattle.common.proofs.Choices.{pick-true, pick-false}
 use Rattle.records.specs.Record.{frontOf}
 use Rattle.records.specs.Record.Front.{cut}
-use Rattle.records.proofs.Shapes.{pick-true, pick-false}
 use Rattle.heads.specs.declared.Head.{Head}
 use Rattle.heads.specs.declared.Head.the-variants.{Record, Cut}
 use Rattle.heads.specs.Head.{headAt}

@@ -9,11 +9,11 @@ use lib.ListN.{length, take, drop, length-drop}
 use lib.Seq.{drop-drop}
 use borrow.Author.Tests.{eq-eqb, ne-eqb, lt-ltb}
 use Rattle.common.specs.Choice.{pick}
+use Rattle.common.proofs.Choices.{pick-true, pick-false}
 use Rattle.tree.specs.Bounds.{Bytes}
 use Rattle.tree.specs.Names.Given.{given, nothing}
 use Rattle.records.specs.Record.{frontOf}
 use Rattle.records.specs.Record.Front.{cut}
-use Rattle.records.proofs.Shapes.{pick-true, pick-false}
 use Rattle.lists.specs.Entries.{listOf}
 use Rattle.lists.specs.Entries.Listed.{listed}
 use Rattle.lists.specs.Given.{valueOf}

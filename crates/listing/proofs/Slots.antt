@@ -6,7 +6,7 @@ use native.Mathlib.Omega.{arith}
 use lib.Dec.{leb}
 use borrow.Author.Tests.{leb-true, le-leb, lt-leb}
 use Rattle.common.specs.Choice.{pick}
-use Rattle.records.proofs.Shapes.{pick-true, pick-false}
+use Rattle.common.proofs.Choices.{pick-true, pick-false}
 use Rattle.lists.specs.Entries.{between, preparing, running, boundList, rowList, runList}
 use Rattle.listing.specs.Walk.{takenIn, slotOf}
 

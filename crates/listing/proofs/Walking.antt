@@ -10,9 +10,9 @@ use lib.Seq.{drop-drop, getD-set-same, getD-set-other}
 use borrow.Author.Tests.{eq-eqb, ne-eqb, eqb-true, eqb-false, le-leb, lt-leb}
 use Rattle.common.specs.Choice.{pick}
 use Rattle.common.specs.Answer.{Value}
+use Rattle.common.proofs.Choices.{pick-true, pick-false}
 use Rattle.records.specs.Record.{Front, frontOf}
 use Rattle.records.specs.Record.Front.{front, cut}
-use Rattle.records.proofs.Shapes.{pick-true, pick-false}
 use Rattle.lists.specs.Entries.{entry, Listed, among, withFirst, thenEntry, walk, listOf}
 use Rattle.lists.specs.Entries.Listed.{listed, badList}
 use Rattle.heads.proofs.Heads.{Stands}

@@ -11,11 +11,11 @@ use lib.Seq.{drop-at}
 use borrow.Author.Tests.{le-leb, leb-true, ne-eqb, eqb-true, eqb-false}
 use Rattle.common.specs.Choice.{pick}
 use Rattle.common.specs.Answer.{Value}
+use Rattle.common.proofs.Choices.{pick-true, pick-false}
 use Rattle.tree.specs.Bounds.{Bytes}
 use Rattle.tree.proofs.Bytes.{bytes-drop}
 use Rattle.records.specs.Record.{recordOf, Front, frontOf}
 use Rattle.records.specs.Record.Front.{front, cut}
-use Rattle.records.proofs.Shapes.{pick-true, pick-false}
 use Rattle.records.proofs.There.{length-record, front-record}
 use Rattle.records.proofs.Back.{front-back}
 use Rattle.lists.specs.Entries.{Entry, entry, Listed, among, withFirst, thenEntry, walk, listOf}

@@ -9,9 +9,9 @@ use lib.ListN.{length, drop, length-drop}
 use borrow.Author.Tests.{eq-eqb}
 use Rattle.common.specs.Choice.{pick}
 use Rattle.common.specs.Answer.{Value}
+use Rattle.common.proofs.Choices.{pick-true}
 use Rattle.records.specs.Record.{Front, frontOf}
 use Rattle.records.specs.Record.Front.{front, cut}
-use Rattle.records.proofs.Shapes.{pick-true}
 use Rattle.lists.specs.Entries.{entry, Listed, withFirst, thenEntry, walk}
 use Rattle.lists.specs.Entries.Listed.{listed}
 

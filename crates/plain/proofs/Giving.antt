@@ -15,9 +15,10 @@ use Rattle.common.specs.Answer.{Delivered, deliver}
 use Rattle.common.specs.Answer.Answer.{value, refused}
 use Rattle.common.proofs.Places.{length-tab}
 use Rattle.common.proofs.Runs.{Run, run-more, run-whole}
+use Rattle.common.proofs.Choices.{pick-true, pick-false}
 use Rattle.field.specs.Xor as field
 use Rattle.meaning.specs.Real.{cat, xorByte, xorBytes, xor, same, eq, head}
-use Rattle.handing.proofs.Giving.{pick-true, pick-false, gives, lacks, refuses}
+use Rattle.handing.proofs.Giving.{gives, lacks, refuses}
 use Rattle.answers.specs.declared.Told.the-variants.{Done, Refused}
 use Rattle.answers.specs.Told.{toldOf}
 

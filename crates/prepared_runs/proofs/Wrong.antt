@@ -6,8 +6,8 @@ use native.Mathlib.Omega.{arith}
 use lib.ListN.{length, getD, drop}
 use borrow.Author.Tests.{le-leb, le-ltb}
 use Rattle.common.specs.Answer.{deliver}
+use Rattle.common.proofs.Choices.{pick-true, pick-false}
 use Rattle.modes.specs.Cell.{cellOf}
-use Rattle.records.proofs.Shapes.{pick-true, pick-false}
 use Rattle.texts.proofs.Examples.{text}
 use Rattle.recipe.specs.Outcome.{Outcome, outcome, cleared, inRoom}
 use Rattle.recipe.specs.Prepare.{answerOf, placeOf, preparedOf, prepareOf}

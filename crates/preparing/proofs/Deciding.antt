@@ -7,6 +7,7 @@ use native.Mathlib.Omega.{arith}
 use lib.ListN.{length, take, drop, length-append}
 use lib.Seq.{take-at}
 use borrow.Author.Tests.{le-leb, lt-leb}
+use Rattle.common.proofs.Choices.{pick-true, pick-false}
 use Rattle.tree.specs.Tree.{Tree}
 use Rattle.tree.specs.Bounds.{Bytes, Within}
 use Rattle.tree.specs.Names.{Binding}
@@ -19,7 +20,6 @@ use Rattle.records.specs.Encode.{encode}
 use Rattle.records.specs.Decode.{decode, imageWith}
 use Rattle.records.specs.Decode.Image.{image}
 use Rattle.records.specs.Decode.Item.{item}
-use Rattle.records.proofs.Shapes.{pick-true, pick-false}
 use Rattle.records.proofs.There.{image-encode}
 use Rattle.lists.specs.Entries.{Entry, Listed, preparing, listOf}
 use Rattle.lists.specs.Entries.Listed.{listed, badList}

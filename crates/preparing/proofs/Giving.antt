@@ -9,7 +9,7 @@ use lib.Seq.{drop-at}
 use borrow.Author.Tests.{le-leb, lt-leb, le-ltb, lt-ltb}
 use Rattle.common.specs.Choice.{pick}
 use Rattle.common.specs.Answer.{deliver, refusal}
-use Rattle.records.proofs.Shapes.{pick-true, pick-false}
+use Rattle.common.proofs.Choices.{pick-true, pick-false}
 use Rattle.kinds.specs.Tables.{tablesOf}
 use Rattle.substitutions.specs.Tables.{substitutions, unsubstitutions}
 use Rattle.lookup.specs.Table.{sealTable, openTable}

@@ -10,6 +10,7 @@ use lib.Seq.{take-append-seam}
 use borrow.Author.Tests.{le-ltb, leb-true}
 use Rattle.common.specs.Choice.{pick}
 use Rattle.common.specs.Answer.{Answer, Delivered, refusal, deliver}
+use Rattle.common.proofs.Choices.{pick-false}
 use Rattle.tree.specs.Tree.{Tree}
 use Rattle.tree.specs.Bounds.{Bytes}
 use Rattle.tree.specs.Names.{Binding, AllBound}
@@ -26,7 +27,7 @@ use Rattle.meaning.proofs.Within.{fold-within}
 use Rattle.records.specs.Encode.{encode}
 use Rattle.records.specs.Decode.{imageWith, imageOf}
 use Rattle.records.specs.Decode.Image.{image}
-use Rattle.records.proofs.Shapes.{pick-all, pick-false}
+use Rattle.records.proofs.Shapes.{pick-all}
 use Rattle.records.proofs.There.{image-encode}
 use Rattle.lists.specs.Entries.{Entry, Listed, preparing, running, listOf}
 use Rattle.lists.specs.Entries.Listed.{listed, badList}

@@ -6,6 +6,7 @@ use lib.ListN.{length, drop}
 use borrow.Author.Tests.{le-leb, lt-leb, le-ltb}
 use Rattle.common.specs.Answer.{Value, Answer, Delivered, refusal, deliver}
 use Rattle.common.specs.Answer.Answer.{value, refused}
+use Rattle.common.proofs.Choices.{pick-true, pick-false}
 use Rattle.tree.specs.Tree.{Tree}
 use Rattle.tree.specs.Names.{unbound}
 use Rattle.tree.specs.Reading.Read.{got, wrong}
@@ -15,7 +16,6 @@ use Rattle.meaning.specs.Fold.{fold}
 use Rattle.records.specs.Encode.{encode}
 use Rattle.records.specs.Decode.{imageOf}
 use Rattle.records.specs.Decode.Image.{image, noImage}
-use Rattle.records.proofs.Shapes.{pick-true, pick-false}
 use Rattle.lists.specs.Entries.{Entry, preparing, running, listOf}
 use Rattle.lists.specs.Entries.Listed.{listed, badList}
 use Rattle.lists.specs.Given.{bindingOf, runningOf}

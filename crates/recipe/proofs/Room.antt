@@ -7,7 +7,7 @@ use lib.ListN.{length, drop, getD, replicate, length-append, length-drop, length
 use lib.Seq.{drop-at}
 use borrow.Author.Tests.{lt-ltb, le-ltb}
 use Rattle.common.specs.Answer.{Delivered, refusal}
-use Rattle.records.proofs.Shapes.{pick-true, pick-false}
+use Rattle.common.proofs.Choices.{pick-true, pick-false}
 use Rattle.meaning.specs.Real.{Cipher}
 use Rattle.recipe.specs.Outcome.{Outcome, zeroed, cleared, outcome, inRoom}
 use Rattle.recipe.specs.Prepare.{prepareOf}

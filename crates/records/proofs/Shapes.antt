@@ -6,6 +6,7 @@ use native.Mathlib.Omega.{arith}
 use lib.Dec.{eqb}
 use borrow.Author.Tests.{eqb-true, eqb-false, ne-eqb}
 use Rattle.common.specs.Choice.{pick}
+use Rattle.common.proofs.Choices.{pick-false}
 use Rattle.tree.specs.Bounds.{argumentsOf, whenKind}
 use Rattle.tree.proofs.Table.{call-kind, when-arguments}
 use Rattle.records.specs.Encode.{constantKind, rowKind, runKind, boundKind}
@@ -17,14 +18,6 @@ pub pick-all : {A : Type 0} (P : A → Type 0) (b : Bool) (x y : A) → (b ≡ t
 unfolding pick
 pick-all P true x y f g = f refl
 pick-all P false x y f g = g refl
-
-pub pick-true : {A : Type 0} (b : Bool) (x y : A) → b ≡ true → pick b x y ≡ x
-unfolding pick
-pick-true b x y e = rw e
-
-pub pick-false : {A : Type 0} (b : Bool) (x y : A) → b ≡ false → pick b x y ≡ y
-unfolding pick
-pick-false b x y e = rw e
 
 -- what a shape says of the kind
 unfoldable pub Says : Bool → ℕ → Shape → Type 0

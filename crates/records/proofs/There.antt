@@ -8,6 +8,7 @@ use lib.ListN.{length, take, drop, length-append}
 use lib.Seq.{take-append-seam, drop-append-seam, drop-append-add}
 use borrow.Author.Tests.{le-leb, le-ltb, lt-ltb, eq-eqb}
 use Rattle.common.specs.Choice.{pick}
+use Rattle.common.proofs.Choices.{pick-true, pick-false}
 use Rattle.tree.specs.Tree.{Tree}
 use Rattle.tree.specs.Tree.Tree.{literal, bound, row, run, one, two, three, four, when}
 use Rattle.tree.specs.Bounds.{depth, nodes, whenKind, Proper, Small, Within}
@@ -19,7 +20,7 @@ use Rattle.records.specs.Decode.{Shape, shapeOf, Item, thenItem, thenFro
 use Rattle.records.specs.Decode.Shape.{aConstant, aRow, aRun, aWhen, aOne, aTwo, aThree, aFour}
 use Rattle.records.specs.Decode.Item.{item}
 use Rattle.records.specs.Decode.Image.{image}
-use Rattle.records.proofs.Shapes.{pick-true, pick-false, leaf-shapes, bound-shape, call-shape, not-when, call-shapes}
+use Rattle.records.proofs.Shapes.{leaf-shapes, bound-shape, call-shape, not-when, call-shapes}
 
 pub length-record : (k : ℕ) (p : List ℕ) → length (recordOf k p) ≡ 4 + length p
 unfolding recordOf

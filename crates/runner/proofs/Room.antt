@@ -8,6 +8,7 @@ use lib.Seq.{drop-at}
 use borrow.Author.Tests.{lt-ltb, le-ltb}
 use Rattle.common.specs.Choice.{pick}
 use Rattle.common.specs.Answer.{Delivered, refusal, deliver}
+use Rattle.common.proofs.Choices.{pick-true, pick-false}
 use Rattle.recipe.specs.Outcome.{zeroed, cleared, outcome, inRoom}
 use Rattle.recipe.specs.Run.{ranOf, runOf}
 use Rattle.modes.specs.Cell.{cellOf}
@@ -18,14 +19,6 @@ use Rattle.answers.specs.Told.{numberOf, countOf, toldOf}
 pub cleared-front : (n : ℕ) (w ys : List ℕ) → length ys ≡ n → zeroed n (ys ++ drop n w) ≡ zeroed n w
 unfolding zeroed
 cleared-front n w ys e = ap (λ x. replicate n 0 ++ x) (drop-at ys (drop n w) n e)
-
-pick-true : {A : Type 0} (b : Bool) (x y : A) → b ≡ true → pick b x y ≡ x
-unfolding pick
-pick-true b x y e = rw e
-
-pick-false : {A : Type 0} (b : Bool) (x y : A) → b ≡ false → pick b x y ≡ y
-unfolding pick
-pick-false b x y e = rw e
 
 -- `run`
 module _ (image list out work : List ℕ) where

@@ -77,11 +77,15 @@ fn last_round(tab: &[u8; 8192], s: &mut [u16], n: usize, c: usize, ks: &[u64], a
     blocks::add_keys(s, n, c, ks, at);
 }
 
-// Blocks of 2 columns.
+// Blocks of 2 columns. One that stands alone has nothing to overlap with, and goes through its rounds in machine words.
 fn seal2(tab: &[u8; 8192], s: &mut [u16], n: usize, t: usize, ks: &[u64])
     requires { ⌜ (now tab ≡ sealTable) × (0 < t) × (4 * (2 * n) ≤ length (now s)) × (2 * (t + 1) ≤ length (now ks)) × (t ≤ 18) ⌝ }
     ensures { λ r. ⌜ Walked 2 n (seal 2 t (keysOf 2 (now (ks .entry)))) (now (s .entry)) (now (s .exit)) ⌝ }
 {
+    if n == 1 {
+        seal_alone::seal2(tab, s, t, ks);
+        return;
+    }
     blocks::add_keys(s, n, 2, ks, 0);
     rounds2(tab, s, n, t, ks);
     last_round(tab, s, n, 2, ks, 2 * t);
@@ -92,12 +96,16 @@ fn seal4(tab: &[u8; 8192], s: &mut [u16], n: usize, t: usize, ks: &[u64])
     requires { ⌜ (now tab ≡ sealTable) × (0 < t) × (4 * (4 * n) ≤ length (now s)) × (4 * (t + 1) ≤ length (now ks)) × (t ≤ 18) ⌝ }
     ensures { λ r. ⌜ Walked 4 n (seal 4 t (keysOf 4 (now (ks .entry)))) (now (s .entry)) (now (s .exit)) ⌝ }
 {
+    if n == 1 {
+        seal_alone::seal4(tab, s, t, ks);
+        return;
+    }
     blocks::add_keys(s, n, 4, ks, 0);
     rounds4(tab, s, n, t, ks);
     last_round(tab, s, n, 4, ks, 4 * t);
 }
 
-// Blocks of 8 columns.
+// Blocks of 8 columns. One alone would not fit into the machine's registers.
 fn seal8(tab: &[u8; 8192], s: &mut [u16], n: usize, t: usize, ks: &[u64])
     requires { ⌜ (now tab ≡ sealTable) × (0 < t) × (4 * (8 * n) ≤ length (now s)) × (8 * (t + 1) ≤ length (now ks)) × (t ≤ 18) ⌝ }
     ensures { λ r. ⌜ Walked 8 n (seal 8 t (keysOf 8 (now (ks .entry)))) (now (s .entry)) (now (s .exit)) ⌝ }

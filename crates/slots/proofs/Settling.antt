@@ -11,20 +11,13 @@ use borrow.Rule.Slice.PartMut.{midOf, putMid, take-put, mid-len}
 use Rattle.common.specs.Choice.{pick}
 use Rattle.common.specs.Answer.{Answer, Delivered, refusal, deliver}
 use Rattle.common.specs.Answer.Answer.{value, refused}
+use Rattle.common.proofs.Choices.{pick-true, pick-false}
 use Rattle.meaning.specs.Values.{Valued}
 use Rattle.meaning.specs.Numbers.{Numbered}
 use Rattle.answers.specs.declared.Told.{Told}
 use Rattle.answers.specs.declared.Told.the-variants.{Done, Refused}
 use Rattle.answers.specs.Told.{numberOf, countOf, toldOf}
 use Rattle.slots.specs.Slots.{tellOf, settledOf, Holds, At}
-
-pick-true : {A : Type 0} (b : Bool) (x y : A) → b ≡ true → pick b x y ≡ x
-unfolding pick
-pick-true b x y e = rw e
-
-pick-false : {A : Type 0} (b : Bool) (x y : A) → b ≡ false → pick b x y ≡ y
-unfolding pick
-pick-false b x y e = rw e
 
 -- the ways of `settled`
 module _ (t : Told) where
