@@ -8,16 +8,17 @@ use lib.ListN.{getD}
 use Rattle.field.specs.Xor.{xor}
 use Rattle.field.specs.Column.{pack}
 use Rattle.field.specs.Mixing.{xsum}
-use Rattle.field.proofs.XorLaws.{zero-l}
+use Rattle.field.proofs.XorLaws.{zero-l, assoc}
 use Rattle.field.proofs.PackLaws.{pack-ext}
 use Rattle.lookup.specs.Table.{turned, entry, half, gather}
 
--- four rows
-pub four-rows : (t : List ℕ) (b : ℕ → ℕ) (r y x e0 e1 e2 e3 : ℕ) → e0 ≡ entry t 0 (b 0) → e1 ≡ entry t 1 (b 1) → e2 ≡ entry t 2 (b 2) → e3 ≡ entry t 3 (b 3)
-    → x ≡ xor e0 e1 → y ≡ xor x e2 → r ≡ xor y e3 → r ≡ half t b
+-- four rows added to w
+pub four-rows : (t : List ℕ) (b : ℕ → ℕ) (w r z y x e0 e1 e2 e3 : ℕ) → e0 ≡ entry t 0 (b 0) → e1 ≡ entry t 1 (b 1) → e2 ≡ entry t 2 (b 2) → e3 ≡ entry t 3 (b 3)
+    → x ≡ xor w e0 → y ≡ xor x e1 → z ≡ xor y e2 → r ≡ xor z e3 → r ≡ xor w (half t b)
 unfolding half xsum
-four-rows t b r y x e0 e1 e2 e3 h0 h1 h2 h3 hx hy hr =
-    hr ∙ ap₂ xor (hy ∙ ap₂ xor (hx ∙ ap₂ xor (h0 ∙ sym (zero-l (entry t 0 (b 0)))) h1) h2) h3
+four-rows t b w r z y x e0 e1 e2 e3 h0 h1 h2 h3 hx hy hz hr =
+    hr ∙ ap (λ n. xor n e3) (hz ∙ ap (λ n. xor n e2) (hy ∙ ap (λ n. xor n e1) hx ∙ assoc w e0 e1) ∙ assoc w (xor e0 e1) e2) ∙ assoc w (xor (xor e0 e1) e2) e3
+    ∙ ap (xor w) (ap₂ xor (ap₂ xor (ap₂ xor (h0 ∙ sym (zero-l (entry t 0 (b 0)))) h1) h2) h3)
 
 pub turn-fits : (x : ℕ) → x < 2 ^ 64 → turned x < 2 ^ 64
 unfolding turned

@@ -62,7 +62,7 @@ fn mixed2(t: &[u8; 8192], x: [u64; 2]) -> [u64; 2]
     let a = x[0];
     let b = x[1];
     let mut o = [0u64; 2];
-    o[0] = columns::column(
+    o[0] = columns::column_alone(
         t,
         piece0(a),
         piece0(a),
@@ -73,7 +73,7 @@ fn mixed2(t: &[u8; 8192], x: [u64; 2]) -> [u64; 2]
         piece3(b),
         piece3(b),
     );
-    o[1] = columns::column(
+    o[1] = columns::column_alone(
         t,
         piece0(b),
         piece0(b),
@@ -152,7 +152,7 @@ fn mixed4(t: &[u8; 8192], x: [u64; 4]) -> [u64; 4]
     let c = x[2];
     let d = x[3];
     let mut o = [0u64; 4];
-    o[0] = columns::column(
+    o[0] = columns::column_alone(
         t,
         piece0(a),
         piece0(a),
@@ -163,7 +163,7 @@ fn mixed4(t: &[u8; 8192], x: [u64; 4]) -> [u64; 4]
         piece3(b),
         piece3(b),
     );
-    o[1] = columns::column(
+    o[1] = columns::column_alone(
         t,
         piece0(b),
         piece0(b),
@@ -174,7 +174,7 @@ fn mixed4(t: &[u8; 8192], x: [u64; 4]) -> [u64; 4]
         piece3(c),
         piece3(c),
     );
-    o[2] = columns::column(
+    o[2] = columns::column_alone(
         t,
         piece0(c),
         piece0(c),
@@ -185,7 +185,7 @@ fn mixed4(t: &[u8; 8192], x: [u64; 4]) -> [u64; 4]
         piece3(d),
         piece3(d),
     );
-    o[3] = columns::column(
+    o[3] = columns::column_alone(
         t,
         piece0(d),
         piece0(d),

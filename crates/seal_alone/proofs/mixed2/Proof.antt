@@ -5,7 +5,7 @@ use Rattle.seal_alone.proofs.mixed2.Statement.{statement}
 use Rattle.seal_alone.proofs.mixed2.Tie as tie
 use Rattle.seal_alone.proofs.mixed2.Reads as reads
 use Rattle.seal_alone.proofs.mixed2.Lts as lts
-use Rattle.columns.proofs.column.Reads as column-reads
+use Rattle.columns.proofs.column_alone.Reads as column-alone-reads
 use Rattle.seal_alone.proofs.piece0.Reads as piece0-reads
 use Rattle.seal_alone.proofs.piece1.Reads as piece1-reads
 use Rattle.seal_alone.proofs.piece2.Reads as piece2-reads
@@ -52,8 +52,8 @@ piece3-requires-2 : tie.Need-piece3-requires-2
 piece3-requires-2 c κs = search needs
 
 -- src/lib.rt:65:12
-column-requires : tie.Need-column-requires
-column-requires c κs = search needs
+column-alone-requires : tie.Need-column-alone-requires
+column-alone-requires c κs = search needs
 
 -- src/lib.rt:65:5
 array-write-o : tie.Need-array-write-o
@@ -92,8 +92,8 @@ piece3-requires-4 : tie.Need-piece3-requires-4
 piece3-requires-4 c κs = search needs
 
 -- src/lib.rt:76:12
-column-requires-2 : tie.Need-column-requires-2
-column-requires-2 c κs = search needs
+column-alone-requires-2 : tie.Need-column-alone-requires-2
+column-alone-requires-2 c κs = search needs
 
 -- src/lib.rt:76:5
 array-write-o-2 : tie.Need-array-write-o-2
@@ -101,7 +101,7 @@ array-write-o-2 c = search needs
 
 -- src/lib.rt:59:1
 returns : tie.Need-returns
-returns c = block-2 (now (c .before .before .before .before .before .before .before .before .before .before .before .before .before .before .before .before .before .before .args .t)) (c .before .before .before .before .before .before .before .before .before .before .before .before .before .before .before .before .before .before .args .t2) (c .before .before .before .before .before .before .before .before .before .column .result) (c .column2 .result) (column-2-0 (now (c .before .before .before .before .before .before .before .before .before .before .before .before .before .before .before .before .before .before .args .t)) (c .before .before .before .before .before .before .before .before .before .before .before .before .before .before .before .before .before .before .args .t2) (c .before .before .before .before .before .before .before .before .before .column .result) (c .before .before .before .before .before .before .before .before .before .before .before .before .before .before .before .before .before .piece0 .result) (c .before .before .before .before .before .before .before .before .before .before .before .before .before .before .before .before .piece02 .result) (c .before .before .before .before .before .before .before .before .before .before .before .before .before .before .before .piece1 .result) (c .before .before .before .before .before .before .before .before .before .before .before .before .before .before .piece12 .result) (c .before .before .before .before .before .before .before .before .before .before .before .before .before .piece2 .result) (c .before .before .before .before .before .before .before .before .before .before .before .before .piece22 .result) (c .before .before .before .before .before .before .before .before .before .before .before .piece3 .result) (c .before .before .before .before .before .before .before .before .before .before .piece32 .result) (c .before .before .before .before .before .before .before .before .before .column .ensures) (c .before .before .before .before .before .before .before .before .before .before .before .before .before .before .before .before .before .piece0 .ensures) (c .before .before .before .before .before .before .before .before .before .before .before .before .before .before .before .before .piece02 .ensures) (c .before .before .before .before .before .before .before .before .before .before .before .before .before .before .before .piece1 .ensures) (c .before .before .before .before .before .before .before .before .before .before .before .before .before .before .piece12 .ensures) (c .before .before .before .before .before .before .before .before .before .before .before .before .before .piece2 .ensures) (c .before .before .before .before .before .before .before .before .before .before .before .before .piece22 .ensures) (c .before .before .before .before .before .before .before .before .before .before .before .piece3 .ensures) (c .before .before .before .before .before .before .before .before .before .before .piece32 .ensures)) (column-2-1 (now (c .before .before .before .before .before .before .before .before .before .before .before .before .before .before .before .before .before .before .args .t)) (c .before .before .before .before .before .before .before .before .before .before .before .before .before .before .before .before .before .before .args .t2) (c .column2 .result) (c .before .before .before .before .before .before .before .before .piece03 .result) (c .before .before .before .before .before .before .before .piece04 .result) (c .before .before .before .before .before .before .piece13 .result) (c .before .before .before .before .before .piece14 .result) (c .before .before .before .before .piece23 .result) (c .before .before .before .piece24 .result) (c .before .before .piece33 .result) (c .before .piece34 .result) (c .column2 .ensures) (c .before .before .before .before .before .before .before .before .piece03 .ensures) (c .before .before .before .before .before .before .before .piece04 .ensures) (c .before .before .before .before .before .before .piece13 .ensures) (c .before .before .before .before .before .piece14 .ensures) (c .before .before .before .before .piece23 .ensures) (c .before .before .before .piece24 .ensures) (c .before .before .piece33 .ensures) (c .before .piece34 .ensures))
+returns c = block-2 (now (c .before .before .before .before .before .before .before .before .before .before .before .before .before .before .before .before .before .before .args .t)) (c .before .before .before .before .before .before .before .before .before .before .before .before .before .before .before .before .before .before .args .t2) (c .before .before .before .before .before .before .before .before .before .column-alone .result) (c .column-alone2 .result) (column-2-0 (now (c .before .before .before .before .before .before .before .before .before .before .before .before .before .before .before .before .before .before .args .t)) (c .before .before .before .before .before .before .before .before .before .before .before .before .before .before .before .before .before .before .args .t2) (c .before .before .before .before .before .before .before .before .before .column-alone .result) (c .before .before .before .before .before .before .before .before .before .before .before .before .before .before .before .before .before .piece0 .result) (c .before .before .before .before .before .before .before .before .before .before .before .before .before .before .before .before .piece02 .result) (c .before .before .before .before .before .before .before .before .before .before .before .before .before .before .before .piece1 .result) (c .before .before .before .before .before .before .before .before .before .before .before .before .before .before .piece12 .result) (c .before .before .before .before .before .before .before .before .before .before .before .before .before .piece2 .result) (c .before .before .before .before .before .before .before .before .before .before .before .before .piece22 .result) (c .before .before .before .before .before .before .before .before .before .before .before .piece3 .result) (c .before .before .before .before .before .before .before .before .before .before .piece32 .result) (c .before .before .before .before .before .before .before .before .before .column-alone .ensures) (c .before .before .before .before .before .before .before .before .before .before .before .before .before .before .before .before .before .piece0 .ensures) (c .before .before .before .before .before .before .before .before .before .before .before .before .before .before .before .before .piece02 .ensures) (c .before .before .before .before .before .before .before .before .before .before .before .before .before .before .before .piece1 .ensures) (c .before .before .before .before .before .before .before .before .before .before .before .before .before .before .piece12 .ensures) (c .before .before .before .before .before .before .before .before .before .before .before .before .before .piece2 .ensures) (c .before .before .before .before .before .before .before .before .before .before .before .before .piece22 .ensures) (c .before .before .before .before .before .before .before .before .before .before .before .piece3 .ensures) (c .before .before .before .before .before .before .before .before .before .before .piece32 .ensures)) (column-2-1 (now (c .before .before .before .before .before .before .before .before .before .before .before .before .before .before .before .before .before .before .args .t)) (c .before .before .before .before .before .before .before .before .before .before .before .before .before .before .before .before .before .before .args .t2) (c .column-alone2 .result) (c .before .before .before .before .before .before .before .before .piece03 .result) (c .before .before .before .before .before .before .before .piece04 .result) (c .before .before .before .before .before .before .piece13 .result) (c .before .before .before .before .before .piece14 .result) (c .before .before .before .before .piece23 .result) (c .before .before .before .piece24 .result) (c .before .before .piece33 .result) (c .before .piece34 .result) (c .column-alone2 .ensures) (c .before .before .before .before .before .before .before .before .piece03 .ensures) (c .before .before .before .before .before .before .before .piece04 .ensures) (c .before .before .before .before .before .before .piece13 .ensures) (c .before .before .before .before .before .piece14 .ensures) (c .before .before .before .before .piece23 .ensures) (c .before .before .before .piece24 .ensures) (c .before .before .piece33 .ensures) (c .before .piece34 .ensures))
 
 pub mixed2-spec : {M : Type 1} → statement M
 mixed2-spec =
@@ -117,7 +117,7 @@ mixed2-spec =
     piece2-requires-2
     piece3-requires
     piece3-requires-2
-    column-requires
+    column-alone-requires
     array-write-o
     piece0-requires-3
     piece0-requires-4
@@ -127,6 +127,6 @@ mixed2-spec =
     piece2-requires-4
     piece3-requires-3
     piece3-requires-4
-    column-requires-2
+    column-alone-requires-2
     array-write-o-2
     returns)

@@ -5,7 +5,7 @@ use Rattle.seal_alone.proofs.mixed4.Statement.{statement}
 use Rattle.seal_alone.proofs.mixed4.Tie as tie
 use Rattle.seal_alone.proofs.mixed4.Reads as reads
 use Rattle.seal_alone.proofs.mixed4.Lts as lts
-use Rattle.columns.proofs.column.Reads as column-reads
+use Rattle.columns.proofs.column_alone.Reads as column-alone-reads
 use Rattle.seal_alone.proofs.piece0.Reads as piece0-reads
 use Rattle.seal_alone.proofs.piece1.Reads as piece1-reads
 use Rattle.seal_alone.proofs.piece2.Reads as piece2-reads
@@ -60,8 +60,8 @@ piece3-requires-2 : tie.Need-piece3-requires-2
 piece3-requires-2 c κs = search needs
 
 -- src/lib.rt:155:12
-column-requires : tie.Need-column-requires
-column-requires c κs = search needs
+column-alone-requires : tie.Need-column-alone-requires
+column-alone-requires c κs = search needs
 
 -- src/lib.rt:155:5
 array-write-o : tie.Need-array-write-o
@@ -100,8 +100,8 @@ piece3-requires-4 : tie.Need-piece3-requires-4
 piece3-requires-4 c κs = search needs
 
 -- src/lib.rt:166:12
-column-requires-2 : tie.Need-column-requires-2
-column-requires-2 c κs = search needs
+column-alone-requires-2 : tie.Need-column-alone-requires-2
+column-alone-requires-2 c κs = search needs
 
 -- src/lib.rt:166:5
 array-write-o-2 : tie.Need-array-write-o-2
@@ -140,8 +140,8 @@ piece3-requires-6 : tie.Need-piece3-requires-6
 piece3-requires-6 c κs = search needs
 
 -- src/lib.rt:177:12
-column-requires-3 : tie.Need-column-requires-3
-column-requires-3 c κs = search needs
+column-alone-requires-3 : tie.Need-column-alone-requires-3
+column-alone-requires-3 c κs = search needs
 
 -- src/lib.rt:177:5
 array-write-o-3 : tie.Need-array-write-o-3
@@ -180,8 +180,8 @@ piece3-requires-8 : tie.Need-piece3-requires-8
 piece3-requires-8 c κs = search needs
 
 -- src/lib.rt:188:12
-column-requires-4 : tie.Need-column-requires-4
-column-requires-4 c κs = search needs
+column-alone-requires-4 : tie.Need-column-alone-requires-4
+column-alone-requires-4 c κs = search needs
 
 -- src/lib.rt:188:5
 array-write-o-4 : tie.Need-array-write-o-4
@@ -189,7 +189,7 @@ array-write-o-4 c = search needs
 
 -- src/lib.rt:147:1
 returns : tie.Need-returns
-returns c = block-4 (now (c .before .before .before .before .before .before .before .before .before .before .before .before .before .before .before .before .before .before .before .before .before .before .before .before .before .before .before .before .before .before .before .before .before .before .before .before .args .t)) (c .before .before .before .before .before .before .before .before .before .before .before .before .before .before .before .before .before .before .before .before .before .before .before .before .before .before .before .before .before .before .before .before .before .before .before .before .args .t2) (c .before .before .before .before .before .before .before .before .before .before .before .before .before .before .before .before .before .before .before .before .before .before .before .before .before .before .before .column .result) (c .before .before .before .before .before .before .before .before .before .before .before .before .before .before .before .before .before .before .column2 .result) (c .before .before .before .before .before .before .before .before .before .column3 .result) (c .column4 .result) (column-4-0 (now (c .before .before .before .before .before .before .before .before .before .before .before .before .before .before .before .before .before .before .before .before .before .before .before .before .before .before .before .before .before .before .before .before .before .before .before .before .args .t)) (c .before .before .before .before .before .before .before .before .before .before .before .before .before .before .before .before .before .before .before .before .before .before .before .before .before .before .before .before .before .before .before .before .before .before .before .before .args .t2) (c .before .before .before .before .before .before .before .before .before .before .before .before .before .before .before .before .before .before .before .before .before .before .before .before .before .before .before .column .result) (c .before .before .before .before .before .before .before .before .before .before .before .before .before .before .before .before .before .before .before .before .before .before .before .before .before .before .before .before .before .before .before .before .before .before .before .piece0 .result) (c .before .before .before .before .before .before .before .before .before .before .before .before .before .before .before .before .before .before .before .before .before .before .before .before .before .before .before .before .before .before .before .before .before .before .piece02 .result) (c .before .before .before .before .before .before .before .before .before .before .before .before .before .before .before .before .before .before .before .before .before .before .before .before .before .before .before .before .before .before .before .before .before .piece1 .result) (c .before .before .before .before .before .before .before .before .before .before .before .before .before .before .before .before .before .before .before .before .before .before .before .before .before .before .before .before .before .before .before .before .piece12 .result) (c .before .before .before .before .before .before .before .before .before .before .before .before .before .before .before .before .before .before .before .before .before .before .before .before .before .before .before .before .before .before .before .piece2 .result) (c .before .before .before .before .before .before .before .before .before .before .before .before .before .before .before .before .before .before .before .before .before .before .before .before .before .before .before .before .before .before .piece22 .result) (c .before .before .before .before .before .before .before .before .before .before .before .before .before .before .before .before .before .before .before .before .before .before .before .before .before .before .before .before .before .piece3 .result) (c .before .before .before .before .before .before .before .before .before .before .before .before .before .before .before .before .before .before .before .before .before .before .before .before .before .before .before .before .piece32 .result) (c .before .before .before .before .before .before .before .before .before .before .before .before .before .before .before .before .before .before .before .before .before .before .before .before .before .before .before .column .ensures) (c .before .before .before .before .before .before .before .before .before .before .before .before .before .before .before .before .before .before .before .before .before .before .before .before .before .before .before .before .before .before .before .before .before .before .before .piece0 .ensures) (c .before .before .before .before .before .before .before .before .before .before .before .before .before .before .before .before .before .before .before .before .before .before .before .before .before .before .before .before .before .before .before .before .before .before .piece02 .ensures) (c .before .before .before .before .before .before .before .before .before .before .before .before .before .before .before .before .before .before .before .before .before .before .before .before .before .before .before .before .before .before .before .before .before .piece1 .ensures) (c .before .before .before .before .before .before .before .before .before .before .before .before .before .before .before .before .before .before .before .before .before .before .before .before .before .before .before .before .before .before .before .before .piece12 .ensures) (c .before .before .before .before .before .before .before .before .before .before .before .before .before .before .before .before .before .before .before .before .before .before .before .before .before .before .before .before .before .before .before .piece2 .ensures) (c .before .before .before .before .before .before .before .before .before .before .before .before .before .before .before .before .before .before .before .before .before .before .before .before .before .before .before .before .before .before .piece22 .ensures) (c .before .before .before .before .before .before .before .before .before .before .before .before .before .before .before .before .before .before .before .before .before .before .before .before .before .before .before .before .before .piece3 .ensures) (c .before .before .before .before .before .before .before .before .before .before .before .before .before .before .before .before .before .before .before .before .before .before .before .before .before .before .before .before .piece32 .ensures)) (column-4-1 (now (c .before .before .before .before .before .before .before .before .before .before .before .before .before .before .before .before .before .before .before .before .before .before .before .before .before .before .before .before .before .before .before .before .before .before .before .before .args .t)) (c .before .before .before .before .before .before .before .before .before .before .before .before .before .before .before .before .before .before .before .before .before .before .before .before .before .before .before .before .before .before .before .before .before .before .before .before .args .t2) (c .before .before .before .before .before .before .before .before .before .before .before .before .before .before .before .before .before .before .column2 .result) (c .before .before .before .before .before .before .before .before .before .before .before .before .before .before .before .before .before .before .before .before .before .before .before .before .before .before .piece03 .result) (c .before .before .before .before .before .before .before .before .before .before .before .before .before .before .before .before .before .before .before .before .before .before .before .before .before .piece04 .result) (c .before .before .before .before .before .before .before .before .before .before .before .before .before .before .before .before .before .before .before .before .before .before .before .before .piece13 .result) (c .before .before .before .before .before .before .before .before .before .before .before .before .before .before .before .before .before .before .before .before .before .before .before .piece14 .result) (c .before .before .before .before .before .before .before .before .before .before .before .before .before .before .before .before .before .before .before .before .before .before .piece23 .result) (c .before .before .before .before .before .before .before .before .before .before .before .before .before .before .before .before .before .before .before .before .before .piece24 .result) (c .before .before .before .before .before .before .before .before .before .before .before .before .before .before .before .before .before .before .before .before .piece33 .result) (c .before .before .before .before .before .before .before .before .before .before .before .before .before .before .before .before .before .before .before .piece34 .result) (c .before .before .before .before .before .before .before .before .before .before .before .before .before .before .before .before .before .before .column2 .ensures) (c .before .before .before .before .before .before .before .before .before .before .before .before .before .before .before .before .before .before .before .before .before .before .before .before .before .before .piece03 .ensures) (c .before .before .before .before .before .before .before .before .before .before .before .before .before .before .before .before .before .before .before .before .before .before .before .before .before .piece04 .ensures) (c .before .before .before .before .before .before .before .before .before .before .before .before .before .before .before .before .before .before .before .before .before .before .before .before .piece13 .ensures) (c .before .before .before .before .before .before .before .before .before .before .before .before .before .before .before .before .before .before .before .before .before .before .before .piece14 .ensures) (c .before .before .before .before .before .before .before .before .before .before .before .before .before .before .before .before .before .before .before .before .before .before .piece23 .ensures) (c .before .before .before .before .before .before .before .before .before .before .before .before .before .before .before .before .before .before .before .before .before .piece24 .ensures) (c .before .before .before .before .before .before .before .before .before .before .before .before .before .before .before .before .before .before .before .before .piece33 .ensures) (c .before .before .before .before .before .before .before .before .before .before .before .before .before .before .before .before .before .before .before .piece34 .ensures)) (column-4-2 (now (c .before .before .before .before .before .before .before .before .before .before .before .before .before .before .before .before .before .before .before .before .before .before .before .before .before .before .before .before .before .before .before .before .before .before .before .before .args .t)) (c .before .before .before .before .before .before .before .before .before .before .before .before .before .before .before .before .before .before .before .before .before .before .before .before .before .before .before .before .before .before .before .before .before .before .before .before .args .t2) (c .before .before .before .before .before .before .before .before .before .column3 .result) (c .before .before .before .before .before .before .before .before .before .before .before .before .before .before .before .before .before .piece05 .result) (c .before .before .before .before .before .before .before .before .before .before .before .before .before .before .before .before .piece06 .result) (c .before .before .before .before .before .before .before .before .before .before .before .before .before .before .before .piece15 .result) (c .before .before .before .before .before .before .before .before .before .before .before .before .before .before .piece16 .result) (c .before .before .before .before .before .before .before .before .before .before .before .before .before .piece25 .result) (c .before .before .before .before .before .before .before .before .before .before .before .before .piece26 .result) (c .before .before .before .before .before .before .before .before .before .before .before .piece35 .result) (c .before .before .before .before .before .before .before .before .before .before .piece36 .result) (c .before .before .before .before .before .before .before .before .before .column3 .ensures) (c .before .before .before .before .before .before .before .before .before .before .before .before .before .before .before .before .before .piece05 .ensures) (c .before .before .before .before .before .before .before .before .before .before .before .before .before .before .before .before .piece06 .ensures) (c .before .before .before .before .before .before .before .before .before .before .before .before .before .before .before .piece15 .ensures) (c .before .before .before .before .before .before .before .before .before .before .before .before .before .before .piece16 .ensures) (c .before .before .before .before .before .before .before .before .before .before .before .before .before .piece25 .ensures) (c .before .before .before .before .before .before .before .before .before .before .before .before .piece26 .ensures) (c .before .before .before .before .before .before .before .before .before .before .before .piece35 .ensures) (c .before .before .before .before .before .before .before .before .before .before .piece36 .ensures)) (column-4-3 (now (c .before .before .before .before .before .before .before .before .before .before .before .before .before .before .before .before .before .before .before .before .before .before .before .before .before .before .before .before .before .before .before .before .before .before .before .before .args .t)) (c .before .before .before .before .before .before .before .before .before .before .before .before .before .before .before .before .before .before .before .before .before .before .before .before .before .before .before .before .before .before .before .before .before .before .before .before .args .t2) (c .column4 .result) (c .before .before .before .before .before .before .before .before .piece07 .result) (c .before .before .before .before .before .before .before .piece08 .result) (c .before .before .before .before .before .before .piece17 .result) (c .before .before .before .before .before .piece18 .result) (c .before .before .before .before .piece27 .result) (c .before .before .before .piece28 .result) (c .before .before .piece37 .result) (c .before .piece38 .result) (c .column4 .ensures) (c .before .before .before .before .before .before .before .before .piece07 .ensures) (c .before .before .before .before .before .before .before .piece08 .ensures) (c .before .before .before .before .before .before .piece17 .ensures) (c .before .before .before .before .before .piece18 .ensures) (c .before .before .before .before .piece27 .ensures) (c .before .before .before .piece28 .ensures) (c .before .before .piece37 .ensures) (c .before .piece38 .ensures))
+returns c = block-4 (now (c .before .before .before .before .before .before .before .before .before .before .before .before .before .before .before .before .before .before .before .before .before .before .before .before .before .before .before .before .before .before .before .before .before .before .before .before .args .t)) (c .before .before .before .before .before .before .before .before .before .before .before .before .before .before .before .before .before .before .before .before .before .before .before .before .before .before .before .before .before .before .before .before .before .before .before .before .args .t2) (c .before .before .before .before .before .before .before .before .before .before .before .before .before .before .before .before .before .before .before .before .before .before .before .before .before .before .before .column-alone .result) (c .before .before .before .before .before .before .before .before .before .before .before .before .before .before .before .before .before .before .column-alone2 .result) (c .before .before .before .before .before .before .before .before .before .column-alone3 .result) (c .column-alone4 .result) (column-4-0 (now (c .before .before .before .before .before .before .before .before .before .before .before .before .before .before .before .before .before .before .before .before .before .before .before .before .before .before .before .before .before .before .before .before .before .before .before .before .args .t)) (c .before .before .before .before .before .before .before .before .before .before .before .before .before .before .before .before .before .before .before .before .before .before .before .before .before .before .before .before .before .before .before .before .before .before .before .before .args .t2) (c .before .before .before .before .before .before .before .before .before .before .before .before .before .before .before .before .before .before .before .before .before .before .before .before .before .before .before .column-alone .result) (c .before .before .before .before .before .before .before .before .before .before .before .before .before .before .before .before .before .before .before .before .before .before .before .before .before .before .before .before .before .before .before .before .before .before .before .piece0 .result) (c .before .before .before .before .before .before .before .before .before .before .before .before .before .before .before .before .before .before .before .before .before .before .before .before .before .before .before .before .before .before .before .before .before .before .piece02 .result) (c .before .before .before .before .before .before .before .before .before .before .before .before .before .before .before .before .before .before .before .before .before .before .before .before .before .before .before .before .before .before .before .before .before .piece1 .result) (c .before .before .before .before .before .before .before .before .before .before .before .before .before .before .before .before .before .before .before .before .before .before .before .before .before .before .before .before .before .before .before .before .piece12 .result) (c .before .before .before .before .before .before .before .before .before .before .before .before .before .before .before .before .before .before .before .before .before .before .before .before .before .before .before .before .before .before .before .piece2 .result) (c .before .before .before .before .before .before .before .before .before .before .before .before .before .before .before .before .before .before .before .before .before .before .before .before .before .before .before .before .before .before .piece22 .result) (c .before .before .before .before .before .before .before .before .before .before .before .before .before .before .before .before .before .before .before .before .before .before .before .before .before .before .before .before .before .piece3 .result) (c .before .before .before .before .before .before .before .before .before .before .before .before .before .before .before .before .before .before .before .before .before .before .before .before .before .before .before .before .piece32 .result) (c .before .before .before .before .before .before .before .before .before .before .before .before .before .before .before .before .before .before .before .before .before .before .before .before .before .before .before .column-alone .ensures) (c .before .before .before .before .before .before .before .before .before .before .before .before .before .before .before .before .before .before .before .before .before .before .before .before .before .before .before .before .before .before .before .before .before .before .before .piece0 .ensures) (c .before .before .before .before .before .before .before .before .before .before .before .before .before .before .before .before .before .before .before .before .before .before .before .before .before .before .before .before .before .before .before .before .before .before .piece02 .ensures) (c .before .before .before .before .before .before .before .before .before .before .before .before .before .before .before .before .before .before .before .before .before .before .before .before .before .before .before .before .before .before .before .before .before .piece1 .ensures) (c .before .before .before .before .before .before .before .before .before .before .before .before .before .before .before .before .before .before .before .before .before .before .before .before .before .before .before .before .before .before .before .before .piece12 .ensures) (c .before .before .before .before .before .before .before .before .before .before .before .before .before .before .before .before .before .before .before .before .before .before .before .before .before .before .before .before .before .before .before .piece2 .ensures) (c .before .before .before .before .before .before .before .before .before .before .before .before .before .before .before .before .before .before .before .before .before .before .before .before .before .before .before .before .before .before .piece22 .ensures) (c .before .before .before .before .before .before .before .before .before .before .before .before .before .before .before .before .before .before .before .before .before .before .before .before .before .before .before .before .before .piece3 .ensures) (c .before .before .before .before .before .before .before .before .before .before .before .before .before .before .before .before .before .before .before .before .before .before .before .before .before .before .before .before .piece32 .ensures)) (column-4-1 (now (c .before .before .before .before .before .before .before .before .before .before .before .before .before .before .before .before .before .before .before .before .before .before .before .before .before .before .before .before .before .before .before .before .before .before .before .before .args .t)) (c .before .before .before .before .before .before .before .before .before .before .before .before .before .before .before .before .before .before .before .before .before .before .before .before .before .before .before .before .before .before .before .before .before .before .before .before .args .t2) (c .before .before .before .before .before .before .before .before .before .before .before .before .before .before .before .before .before .before .column-alone2 .result) (c .before .before .before .before .before .before .before .before .before .before .before .before .before .before .before .before .before .before .before .before .before .before .before .before .before .before .piece03 .result) (c .before .before .before .before .before .before .before .before .before .before .before .before .before .before .before .before .before .before .before .before .before .before .before .before .before .piece04 .result) (c .before .before .before .before .before .before .before .before .before .before .before .before .before .before .before .before .before .before .before .before .before .before .before .before .piece13 .result) (c .before .before .before .before .before .before .before .before .before .before .before .before .before .before .before .before .before .before .before .before .before .before .before .piece14 .result) (c .before .before .before .before .before .before .before .before .before .before .before .before .before .before .before .before .before .before .before .before .before .before .piece23 .result) (c .before .before .before .before .before .before .before .before .before .before .before .before .before .before .before .before .before .before .before .before .before .piece24 .result) (c .before .before .before .before .before .before .before .before .before .before .before .before .before .before .before .before .before .before .before .before .piece33 .result) (c .before .before .before .before .before .before .before .before .before .before .before .before .before .before .before .before .before .before .before .piece34 .result) (c .before .before .before .before .before .before .before .before .before .before .before .before .before .before .before .before .before .before .column-alone2 .ensures) (c .before .before .before .before .before .before .before .before .before .before .before .before .before .before .before .before .before .before .before .before .before .before .before .before .before .before .piece03 .ensures) (c .before .before .before .before .before .before .before .before .before .before .before .before .before .before .before .before .before .before .before .before .before .before .before .before .before .piece04 .ensures) (c .before .before .before .before .before .before .before .before .before .before .before .before .before .before .before .before .before .before .before .before .before .before .before .before .piece13 .ensures) (c .before .before .before .before .before .before .before .before .before .before .before .before .before .before .before .before .before .before .before .before .before .before .before .piece14 .ensures) (c .before .before .before .before .before .before .before .before .before .before .before .before .before .before .before .before .before .before .before .before .before .before .piece23 .ensures) (c .before .before .before .before .before .before .before .before .before .before .before .before .before .before .before .before .before .before .before .before .before .piece24 .ensures) (c .before .before .before .before .before .before .before .before .before .before .before .before .before .before .before .before .before .before .before .before .piece33 .ensures) (c .before .before .before .before .before .before .before .before .before .before .before .before .before .before .before .before .before .before .before .piece34 .ensures)) (column-4-2 (now (c .before .before .before .before .before .before .before .before .before .before .before .before .before .before .before .before .before .before .before .before .before .before .before .before .before .before .before .before .before .before .before .before .before .before .before .before .args .t)) (c .before .before .before .before .before .before .before .before .before .before .before .before .before .before .before .before .before .before .before .before .before .before .before .before .before .before .before .before .before .before .before .before .before .before .before .before .args .t2) (c .before .before .before .before .before .before .before .before .before .column-alone3 .result) (c .before .before .before .before .before .before .before .before .before .before .before .before .before .before .before .before .before .piece05 .result) (c .before .before .before .before .before .before .before .before .before .before .before .before .before .before .before .before .piece06 .result) (c .before .before .before .before .before .before .before .before .before .before .before .before .before .before .before .piece15 .result) (c .before .before .before .before .before .before .before .before .before .before .before .before .before .before .piece16 .result) (c .before .before .before .before .before .before .before .before .before .before .before .before .before .piece25 .result) (c .before .before .before .before .before .before .before .before .before .before .before .before .piece26 .result) (c .before .before .before .before .before .before .before .before .before .before .before .piece35 .result) (c .before .before .before .before .before .before .before .before .before .before .piece36 .result) (c .before .before .before .before .before .before .before .before .before .column-alone3 .ensures) (c .before .before .before .before .before .before .before .before .before .before .before .before .before .before .before .before .before .piece05 .ensures) (c .before .before .before .before .before .before .before .before .before .before .before .before .before .before .before .before .piece06 .ensures) (c .before .before .before .before .before .before .before .before .before .before .before .before .before .before .before .piece15 .ensures) (c .before .before .before .before .before .before .before .before .before .before .before .before .before .before .piece16 .ensures) (c .before .before .before .before .before .before .before .before .before .before .before .before .before .piece25 .ensures) (c .before .before .before .before .before .before .before .before .before .before .before .before .piece26 .ensures) (c .before .before .before .before .before .before .before .before .before .before .before .piece35 .ensures) (c .before .before .before .before .before .before .before .before .before .before .piece36 .ensures)) (column-4-3 (now (c .before .before .before .before .before .before .before .before .before .before .before .before .before .before .before .before .before .before .before .before .before .before .before .before .before .before .before .before .before .before .before .before .before .before .before .before .args .t)) (c .before .before .before .before .before .before .before .before .before .before .before .before .before .before .before .before .before .before .before .before .before .before .before .before .before .before .before .before .before .before .before .before .before .before .before .before .args .t2) (c .column-alone4 .result) (c .before .before .before .before .before .before .before .before .piece07 .result) (c .before .before .before .before .before .before .before .piece08 .result) (c .before .before .before .before .before .before .piece17 .result) (c .before .before .before .before .before .piece18 .result) (c .before .before .before .before .piece27 .result) (c .before .before .before .piece28 .result) (c .before .before .piece37 .result) (c .before .piece38 .result) (c .column-alone4 .ensures) (c .before .before .before .before .before .before .before .before .piece07 .ensures) (c .before .before .before .before .before .before .before .piece08 .ensures) (c .before .before .before .before .before .before .piece17 .ensures) (c .before .before .before .before .before .piece18 .ensures) (c .before .before .before .before .piece27 .ensures) (c .before .before .before .piece28 .ensures) (c .before .before .piece37 .ensures) (c .before .piece38 .ensures))
 
 pub mixed4-spec : {M : Type 1} → statement M
 mixed4-spec =
@@ -207,7 +207,7 @@ mixed4-spec =
     piece2-requires-2
     piece3-requires
     piece3-requires-2
-    column-requires
+    column-alone-requires
     array-write-o
     piece0-requires-3
     piece0-requires-4
@@ -217,7 +217,7 @@ mixed4-spec =
     piece2-requires-4
     piece3-requires-3
     piece3-requires-4
-    column-requires-2
+    column-alone-requires-2
     array-write-o-2
     piece0-requires-5
     piece0-requires-6
@@ -227,7 +227,7 @@ mixed4-spec =
     piece2-requires-6
     piece3-requires-5
     piece3-requires-6
-    column-requires-3
+    column-alone-requires-3
     array-write-o-3
     piece0-requires-7
     piece0-requires-8
@@ -237,6 +237,6 @@ mixed4-spec =
     piece2-requires-8
     piece3-requires-7
     piece3-requires-8
-    column-requires-4
+    column-alone-requires-4
     array-write-o-4
     returns)
