@@ -87,9 +87,9 @@ impl Section for Clears {
              Clear is 65,536 bytes set to zero, `katsu_ctr` the entry on the same cell with suite 3; all in turns.\n\n\
              | | cell | ns | clear, ns | in clears | `katsu_ctr`, ns | aimed at, at most | which is, ns | met |\n\
              |---|---|---|---|---|---|---|---|---|\n{rows}{}\n\
-             The last row has the room full of other bytes before each run, the time of filling it taken off. A library that \
-             looks at the room before it clears it spares a room that is zero already, as it is between calls, and pays for \
-             the look here.\n",
+             The last row has the room full of other bytes before each run, the time of filling it taken off: the library \
+             reads the room before it writes it, spares one that is zero already, as it is between calls, and pays for the \
+             reading here.\n",
             full_room_row(self.full_room.best())
         )
     }
