@@ -1,11 +1,9 @@
 -- Each kind has its own call; the answer goes into the slot.
 use mathlib.Core.Path.{_≡_, ap, ap₂, sym, _∙_}
-use mathlib.Core.Bool.{Bool, true, false}
 use mathlib.Core.List.{List, [], _∷_}
 use Prim.Native.Nat.{ℕ, _+_, _-_, _%_, _≤_, _<_}
 use lib.ListN.{length, take, drop}
 use borrow.Author.Tests.{eq-eqb, ne-eqb}
-use Rattle.common.specs.Choice.{pick}
 use Rattle.common.specs.Answer.{Delivered, deliver}
 use Rattle.common.proofs.Choices.{pick-true, pick-false}
 use Rattle.tree.specs.Bounds.{Bytes, argumentsOf, whenKind}

@@ -1,16 +1,13 @@
 -- Lookups: bytes of a table as a number, and the rows of a column.
-use mathlib.Core.Path.{_≡_, refl, sym, ap, ap₂, _∙_}
-use mathlib.Core.List.{List, [], _∷_}
+use mathlib.Core.Path.{_≡_, sym, ap, ap₂, _∙_}
+use mathlib.Core.List.{List}
 use Prim.Native.Nat.{ℕ, zero, suc, _+_, _*_, _/_, _%_, _^_, _<_}
-use native.Mathlib.Nat.{zero-add, mod-lt, div-lt-iff-lt-mul}
+use native.Mathlib.Nat.{mod-lt, div-lt-iff-lt-mul}
 use native.Mathlib.Omega.{arith}
-use lib.ListN.{getD}
 use Rattle.field.specs.Xor.{xor}
-use Rattle.field.specs.Column.{pack}
 use Rattle.field.specs.Mixing.{xsum}
 use Rattle.field.proofs.XorLaws.{zero-l, assoc}
-use Rattle.field.proofs.PackLaws.{pack-ext}
-use Rattle.lookup.specs.Table.{turned, entry, half, gather}
+use Rattle.lookup.specs.Table.{turned, entry, half}
 
 -- four rows added to w
 pub four-rows : (t : List ℕ) (b : ℕ → ℕ) (w r z y x e0 e1 e2 e3 : ℕ) → e0 ≡ entry t 0 (b 0) → e1 ≡ entry t 1 (b 1) → e2 ≡ entry t 2 (b 2) → e3 ≡ entry t 3 (b 3)

@@ -1,20 +1,17 @@
 -- What is told and written is what is delivered.
 use mathlib.Core.Path.{_≡_, refl, ap, ap₂, sym, _∙_}
-use mathlib.Core.Bool.{Bool, true, false}
 use mathlib.Core.List.{List, _++_}
 use Prim.Native.Nat.{ℕ, _+_, _≤_, _<_}
 use native.Mathlib.Nat.{zero-add}
 use native.Mathlib.Omega.{arith}
 use lib.ListN.{length, getD, take, drop}
 use borrow.Author.Tests.{le-leb, lt-leb}
-use Rattle.common.specs.Choice.{pick}
 use Rattle.common.specs.Places.{tab}
-use Rattle.common.specs.Answer.{Value, Answer, Delivered, refusal, deliver}
+use Rattle.common.specs.Answer.{refusal, deliver}
 use Rattle.common.specs.Answer.Answer.{value, refused}
 use Rattle.common.proofs.Places.{tab-self}
 use Rattle.common.proofs.Runs.{Run, run-whole}
 use Rattle.common.proofs.Choices.{pick-true, pick-false}
-use Rattle.answers.specs.declared.Told.{Told}
 use Rattle.answers.specs.declared.Told.the-variants.{Done, Refused}
 use Rattle.answers.specs.Told.{numberOf, countOf, toldOf}
 

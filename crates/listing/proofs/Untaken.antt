@@ -9,9 +9,8 @@ use borrow.Author.Tests.{ne-eqb, lt-leb}
 use Rattle.common.specs.Choice.{pick}
 use Rattle.common.proofs.Choices.{pick-false}
 use Rattle.tree.specs.Bounds.{Bytes}
-use Rattle.tree.specs.Names.{Given}
 use Rattle.tree.specs.Names.Given.{nothing}
-use Rattle.lists.specs.Entries.{Entry, between, preparing, running, boundList, rowList, runList, listOf}
+use Rattle.lists.specs.Entries.{Entry, between, preparing, boundList, rowList, runList, listOf}
 use Rattle.lists.specs.Entries.Listed.{listed}
 use Rattle.lists.specs.Given.{valueOf}
 use Rattle.lists.specs.Good.{GoodList}

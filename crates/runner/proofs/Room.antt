@@ -1,12 +1,10 @@
 -- The work room afterwards, and the whole outcome.
 use mathlib.Core.Path.{_≡_, ap, ap₂, sym, _∙_}
-use mathlib.Core.Bool.{Bool, true, false}
 use mathlib.Core.List.{List, _++_}
 use Prim.Native.Nat.{ℕ, _+_, _≤_, _<_}
 use lib.ListN.{length, drop, replicate}
 use lib.Seq.{drop-at}
 use borrow.Author.Tests.{lt-ltb, le-ltb}
-use Rattle.common.specs.Choice.{pick}
 use Rattle.common.specs.Answer.{Delivered, refusal, deliver}
 use Rattle.common.proofs.Choices.{pick-true, pick-false}
 use Rattle.recipe.specs.Outcome.{zeroed, cleared, outcome, inRoom}

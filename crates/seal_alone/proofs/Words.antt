@@ -1,12 +1,10 @@
 -- The columns of a block in machine words: looked up by their pieces, keyed, put back.
 use mathlib.Core.Path.{_≡_, refl, sym, ap, ap₂, _∙_}
-use mathlib.Core.Bool.{Bool, true, false}
 use mathlib.Core.List.{List, [], _∷_}
-use Prim.Native.Nat.{ℕ, _+_, _*_, _/_, _%_, _^_, _<_}
-use native.Mathlib.Nat.{add-zero, div-div-eq-div-mul}
+use Prim.Native.Nat.{ℕ, _+_, _/_, _%_, _^_}
+use native.Mathlib.Nat.{add-zero}
 use native.Mathlib.Omega.{arith}
 use lib.ListN.{getD}
-use Rattle.common.specs.Choice.{pick}
 use Rattle.common.specs.Places.{tab}
 use Rattle.field.specs.Xor.{xor}
 use Rattle.field.specs.Column.{byteOf}

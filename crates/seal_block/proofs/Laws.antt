@@ -1,19 +1,18 @@
 -- The walks, one after another, are the block transformation.
-use mathlib.Core.Path.{_≡_, refl, sym, ap, ap₂, _∙_, subst}
+use mathlib.Core.Path.{_≡_, refl, sym, ap, _∙_, subst}
 use mathlib.Core.Logic.{_⊎_, ⊎-elim}
 use mathlib.Core.List.{List}
-use Prim.Native.Nat.{ℕ, zero, suc, _+_, _-_, _*_, _<_, _≤_}
-use native.Mathlib.Nat.{mul-le-mul-left, mul-suc, mul-zero, mul-one}
+use Prim.Native.Nat.{ℕ, _+_, _-_, _*_, _<_, _≤_}
+use native.Mathlib.Nat.{mul-le-mul-left, mul-suc, mul-zero}
 use native.Mathlib.Numerals.{add-one}
 use native.Mathlib.Omega.{arith}
-use lib.ListN.{getD, length, replicate, getD-replicate}
-use Rattle.common.specs.Places.{tab}
+use lib.ListN.{getD, replicate, getD-replicate}
 use Rattle.common.proofs.Places.{getD-tab, tab-ext, tab-self}
 use Rattle.field.specs.Xor.{xor}
 use Rattle.field.proofs.XorLaws.{zero-r}
 use Rattle.lookup.specs.Table.{sealTable}
 use Rattle.words.specs.Words.{blockAt, Walked}
-use Rattle.words.proofs.Walks.{walk-then, walk-as, walk-none}
+use Rattle.words.proofs.Walks.{walk-then, walk-as}
 use Rattle.kalyna.specs.State.{State}
 use Rattle.kalyna.specs.Round.{addKey, xorKey, ssm}
 use Rattle.kalyna.specs.Block.{moves, rounds, seal}

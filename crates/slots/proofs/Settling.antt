@@ -1,6 +1,5 @@
 -- What was delivered into a slot is an answer in the work room.
 use mathlib.Core.Path.{_≡_, refl, ap, sym, _∙_}
-use mathlib.Core.Bool.{Bool, true, false}
 use mathlib.Core.List.{List, _++_}
 use Prim.Native.Nat.{ℕ, _+_, _-_, _≤_}
 use native.Mathlib.Omega.{arith}
@@ -8,7 +7,6 @@ use lib.ListN.{length, take, drop}
 use lib.Seq.{take-append-le, length-take-le, take-at, drop-at}
 use borrow.Author.Tests.{le-leb, eq-eqb, ne-eqb}
 use borrow.Rule.Slice.PartMut.{midOf, putMid, take-put, mid-len}
-use Rattle.common.specs.Choice.{pick}
 use Rattle.common.specs.Answer.{Answer, Delivered, refusal, deliver}
 use Rattle.common.specs.Answer.Answer.{value, refused}
 use Rattle.common.proofs.Choices.{pick-true, pick-false}

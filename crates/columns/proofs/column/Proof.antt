@@ -2,7 +2,7 @@ use mathlib.Core.Path.{refl, ap, ap₂, _∙_}
 use denote.Ref.{now}
 use Rattle.field.specs.Xor.{xor}
 use Rattle.field.proofs.XorLaws.{zero-l, comm}
-use Rattle.lookup.specs.Table.{turned, half, gather}
+use Rattle.lookup.specs.Table.{turned, gather}
 use Rattle.lookup.proofs.Laws.{half-ext}
 use Rattle.columns.proofs.Lookup.{four}
 use borrow.Author.Needs.{needs}

@@ -4,7 +4,6 @@ use Rattle.kalyna.specs.State.{columnsOf}
 use Rattle.seal_block.proofs.Laws.{eight-is}
 use Rattle.key_laws.specs.Turns.{Sized}
 use Rattle.key_laws.specs.Schedule.{scheduleOf}
-use borrow.Author.Needs.{needs}
 use Rattle.keys.proofs.schedule.Statement.{statement}
 use Rattle.keys.proofs.schedule.Tie as tie
 use Rattle.keys.proofs.schedule.Reads as reads
