@@ -1,2 +1,3 @@
 -- Laws of keys of all blocks.
 pub mod Laws
+pub mod Widths

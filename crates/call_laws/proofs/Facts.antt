@@ -10,8 +10,8 @@ use Rattle.suites.specs.Suites.{suiteOf, blockBytes, keyBytes, keyColumns}
 use Rattle.suites.specs.declared.Suite.{Suite}
 use Rattle.suites.specs.declared.Named.the-variants.{Known}
 use Rattle.blocks.specs.Blocks.{Width}
+use Rattle.blocks.proofs.Widths.{width-le, width-pos}
 use Rattle.key_laws.specs.Turns.{Sized}
-use Rattle.key_laws.proofs.Turns.{width-le, width-pos}
 use Rattle.suite_laws.specs.Row.{Row}
 use Rattle.suite_laws.proofs.Rows.{known-row}
 use Rattle.modes.specs.Cell.{Call, Side, Shape, sideOf, shapeOf, sealing, opening}

@@ -1,14 +1,15 @@
 -- Bytes stored eight at a time are the bytes of the columns.
-use mathlib.Core.Path.{_≡_, refl, sym, ap, ap₂, _∙_, subst}
-use mathlib.Core.List.{List, [], _∷_, _++_, append-assoc}
-use Prim.Native.Nat.{ℕ, zero, suc, _+_, _-_, _*_, _/_, _%_, _^_, _<_, _≤_}
-use native.Mathlib.Nat.{zero-add, div-one}
-use native.Mathlib.Numerals.{towards-suc, add-one}
+use mathlib.Core.Path.{_≡_, refl, sym, ap, ap₂, _∙_}
+use mathlib.Core.List.{List}
+use Prim.Native.Nat.{ℕ, _+_, _*_, _/_, _%_, _<_}
+use native.Mathlib.Nat.{div-one}
+use native.Mathlib.Numerals.{towards-suc}
 use native.Mathlib.Omega.{arith}
-use lib.ListN.{getD, take, drop, length, set, length-append, take-append-drop}
-use lib.Seq.{sets, sets-eq, length-sets, take-at, drop-at, drop-drop, length-take-le, drop-append-add}
+use lib.ListN.{getD, set}
+use lib.Seq.{sets}
+use Rattle.common.proofs.Cases.{eight}
 use Rattle.common.specs.Places.{tab}
-use Rattle.common.proofs.Places.{length-tab, tab-ext, tab-add}
+use Rattle.common.proofs.Places.{tab-ext}
 use Rattle.field.specs.Column.{byteOf, pack}
 use Rattle.field.specs.Xor.{xor}
 use Rattle.field.proofs.PackLaws.{byte-xor, byte-pack}
@@ -54,17 +55,6 @@ pub eight-more : (j : ℕ) → 8 * j + 8 ≡ 8 * (j + 1)
 eight-more j = omega arith
 
 -- ---- one byte of a cell
-
-eight : (P : ℕ → Type 0) → P 0 → P 1 → P 2 → P 3 → P 4 → P 5 → P 6 → P 7 → (i : ℕ) → i < 8 → P i
-eight P a b c d e f g h zero l = a
-eight P a b c d e f g h (suc zero) l = b
-eight P a b c d e f g h (suc (suc zero)) l = c
-eight P a b c d e f g h (suc (suc (suc zero))) l = d
-eight P a b c d e f g h (suc (suc (suc (suc zero)))) l = e
-eight P a b c d e f g h (suc (suc (suc (suc (suc zero))))) l = f
-eight P a b c d e f g h (suc (suc (suc (suc (suc (suc zero)))))) l = g
-eight P a b c d e f g h (suc (suc (suc (suc (suc (suc (suc zero))))))) l = h
-eight P a b c d e f g h (suc (suc (suc (suc (suc (suc (suc (suc i)))))))) l = let z : ⊥ = omega arith in absurd z
 
 -- half i of a piece: low for an even byte, high for an odd one
 byte-by : (s : List ℕ) (j : ℕ) → Pieces s → (i : ℕ) → i < 8 → (n : ℕ) → n ≡ 4 * j + i / 2 → (i % 2 ≡ 0 → getD s n 0 % 256 ≡ byteOf (wordAt s j) i) × ((i % 2 ≡ 0 → ⊥) → getD s n 0 / 256 ≡ byteOf (wordAt s j) i)

@@ -1,6 +1,5 @@
 -- Blocks chained one after another, and stored.
 use mathlib.Core.Path.{_≡_, refl, sym, ap, ap₂, _∙_}
-use mathlib.Core.Logic.{_⊎_, ⊎-elim}
 use mathlib.Core.List.{List, _++_, append-assoc}
 use Prim.Native.Nat.{ℕ, suc, _+_, _*_, _/_, _%_, _<_, _≤_}
 use native.Mathlib.Nat.{zero-add, mul-le-mul-right, zero-mul, suc-mul, div-add-mod'}
@@ -11,7 +10,6 @@ use lib.ListN.{getD, take, drop, length}
 use lib.Seq.{take-at, drop-at, drop-drop, take-all}
 use Rattle.common.specs.Places.{tab}
 use Rattle.common.proofs.Places.{length-tab, tab-ext, tab-add, tab-self}
-use Rattle.blocks.specs.Blocks.{Width}
 use Rattle.modes.specs.Blocks.{blockAt, xorBlock}
 use Rattle.modes.specs.Chain.{chained, cbc}
 use Rattle.chains.specs.Links.{linked, links}
@@ -27,13 +25,6 @@ given B x y o o′ e q = e ∙ ap₂ (λ (a : List ℕ) (n : ℕ). a ++ drop n o
 pub chained-none : (B : ℕ) (E : List ℕ → List ℕ) (iv text : List ℕ) → iv ≡ chained B E iv text 0
 unfolding chained
 chained-none B E iv text = refl
-
--- a block has 16 to 64 bytes
-pub width-le : (c : ℕ) → Width c → c ≤ 8
-width-le c w = ⊎-elim (λ e. omega arith) (⊎-elim (λ e. omega arith) (λ e. omega arith)) w
-
-pub width-lt : (c : ℕ) → Width c → 0 < 8 * c
-width-lt c w = ⊎-elim (λ e. omega arith) (⊎-elim (λ e. omega arith) (λ e. omega arith)) w
 
 -- block i ends within n blocks
 pub block-room : (B i n l : ℕ) → i < n → n * B ≤ l → i * B + B ≤ l

@@ -1,7 +1,7 @@
 -- Lookups: bytes of a table as a number, and the rows of a column.
 use mathlib.Core.Path.{_≡_, sym, ap, ap₂, _∙_}
 use mathlib.Core.List.{List}
-use Prim.Native.Nat.{ℕ, zero, suc, _+_, _*_, _/_, _%_, _^_, _<_}
+use Prim.Native.Nat.{ℕ, _+_, _*_, _/_, _%_, _^_, _<_}
 use native.Mathlib.Nat.{mod-lt, div-lt-iff-lt-mul}
 use native.Mathlib.Omega.{arith}
 use Rattle.field.specs.Xor.{xor}
@@ -24,23 +24,3 @@ turn-fits x l =
   where
     sums : (p q : ℕ) → p < 4294967296 → q < 4294967296 → p * 4294967296 + q < 2 ^ 64
     sums p q lp lq = omega arith
-
--- what holds of rows 0 to 3, one by one
-pub four : (P : ℕ → Type 0) → P 0 → P 1 → P 2 → P 3 → (i : ℕ) → i < 4 → P i
-four P a b c d zero l = a
-four P a b c d (suc zero) l = b
-four P a b c d (suc (suc zero)) l = c
-four P a b c d (suc (suc (suc zero))) l = d
-four P a b c d (suc (suc (suc (suc i)))) l = let z : ⊥ = omega arith in absurd z
-
--- and of rows 0 to 7
-pub eight : (P : ℕ → Type 0) → P 0 → P 1 → P 2 → P 3 → P 4 → P 5 → P 6 → P 7 → (i : ℕ) → i < 8 → P i
-eight P a b c d e f g h zero l = a
-eight P a b c d e f g h (suc zero) l = b
-eight P a b c d e f g h (suc (suc zero)) l = c
-eight P a b c d e f g h (suc (suc (suc zero))) l = d
-eight P a b c d e f g h (suc (suc (suc (suc zero)))) l = e
-eight P a b c d e f g h (suc (suc (suc (suc (suc zero))))) l = f
-eight P a b c d e f g h (suc (suc (suc (suc (suc (suc zero)))))) l = g
-eight P a b c d e f g h (suc (suc (suc (suc (suc (suc (suc zero))))))) l = h
-eight P a b c d e f g h (suc (suc (suc (suc (suc (suc (suc (suc i)))))))) l = let z : ⊥ = omega arith in absurd z

@@ -1,4 +1,5 @@
 -- Laws of the definitions that every layer cites.
+pub mod Cases
 pub mod Choices
 pub mod Places
 pub mod Runs

@@ -1,3 +1,4 @@
 -- Laws of the code.
 pub mod Laws
 pub mod Ends
+pub mod Unique

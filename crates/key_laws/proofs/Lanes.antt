@@ -22,10 +22,11 @@ use Rattle.kalyna.proofs.Bytes.{odd-state}
 use Rattle.rounds.specs.Rounds.{keyAt}
 use Rattle.blocks.specs.Blocks.{Width, keysOf}
 use Rattle.blocks.proofs.Laws.{block-column}
+use Rattle.blocks.proofs.Widths.{width-pos}
 use Rattle.key_laws.specs.Stores.{Stored, Spread, Laned, Lanes}
 use Rattle.key_laws.specs.Turns.{laneTurn, oddWord}
 use Rattle.key_laws.proofs.Stores.{apart, key-stored, key-other, key-column, spread-more}
-use Rattle.key_laws.proofs.Turns.{even-input, odd-word, width-pos}
+use Rattle.key_laws.proofs.Turns.{even-input, odd-word}
 
 -- ---- the constant
 

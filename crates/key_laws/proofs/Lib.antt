@@ -6,3 +6,4 @@ pub mod Lanes
 pub mod Loops
 pub mod Schedule
 pub mod Filled
+pub mod Unique

@@ -16,11 +16,11 @@ use Rattle.kalyna.specs.Keys.{helper, evenKey, oddKey, roundKeyWith, roundKey}
 use Rattle.kalyna.proofs.Bytes.{keys-good}
 use Rattle.rounds.specs.Rounds.{keyAt}
 use Rattle.blocks.specs.Blocks.{keysOf}
+use Rattle.blocks.proofs.Widths.{width-pos, width-le}
 use Rattle.key_laws.specs.Stores.{Spread}
 use Rattle.key_laws.specs.Turns.{Sized}
 use Rattle.key_laws.specs.Schedule.{scheduleOf}
 use Rattle.key_laws.proofs.Stores.{key-column}
-use Rattle.key_laws.proofs.Turns.{width-pos, width-le}
 use Rattle.key_laws.proofs.Rounds.{noughts}
 
 -- ---- round keys by their parity

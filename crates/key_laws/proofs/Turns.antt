@@ -13,6 +13,7 @@ use lib.Bits.{bitAnd, and-mask}
 use lib.ListN.{getD, take, drop}
 use lib.Seq.{getD-take, getD-drop}
 use borrow.Author.Tests.{eq-eqb, ne-eqb}
+use Rattle.blocks.proofs.Widths.{width-pos}
 use Rattle.common.specs.Choice.{pick}
 use Rattle.common.specs.Places.{tab}
 use Rattle.common.proofs.Places.{getD-tab}
@@ -25,12 +26,6 @@ use Rattle.blocks.specs.Blocks.{Width}
 use Rattle.key_laws.specs.Turns.{Sized, laneTurn, oddWord}
 
 -- ---- sizes
-
-pub width-le : (c : ℕ) → Width c → c ≤ 8
-width-le c w = ⊎-elim (λ e. omega arith) (⊎-elim (λ e. omega arith) (λ e. omega arith)) w
-
-pub width-pos : (c : ℕ) → Width c → 0 < c
-width-pos c w = ⊎-elim (λ e. omega arith) (⊎-elim (λ e. omega arith) (λ e. omega arith)) w
 
 -- the key has 2, 4 or 8 columns too
 pub key-width : (c kc : ℕ) → Sized c kc → Width kc

@@ -6,11 +6,11 @@ use native.Mathlib.Nat.{mod-lt, div-one}
 use native.Mathlib.Omega.{arith}
 use lib.ListN.{getD, length}
 use Rattle.common.proofs.Places.{getD-tab, tab-ext}
+use Rattle.common.proofs.Cases.{four, eight}
 use Rattle.field.specs.Column.{byteOf}
 use Rattle.field.proofs.XorLaws.{lt-two}
 use Rattle.field.proofs.PackLaws.{byteOf-lt, pack-ext, eight-bytes}
 use Rattle.substitutions.specs.Tables.{unsub, unsubstitutions}
-use Rattle.columns.proofs.Lookup.{four, eight}
 use Rattle.words.specs.Words.{wordAt, putWords, blockAt, Walked}
 use Rattle.words.proofs.Walks.{walk-more}
 use Rattle.kalyna.specs.Round.{subKey, to}

@@ -10,11 +10,11 @@ use lib.ListN.{getD, length, set, length-set}
 use lib.Seq.{getD-set-same, getD-set-other}
 use Rattle.common.specs.Places.{tab}
 use Rattle.common.proofs.Places.{getD-tab, tab-ext}
+use Rattle.common.proofs.Cases.{eight}
 use Rattle.field.specs.Column.{byteOf}
 use Rattle.substitutions.specs.Tables.{substitutions}
 use Rattle.lookup.specs.Table.{gather, openTable}
 use Rattle.lookup.proofs.Laws.{gather-ext}
-use Rattle.columns.proofs.Lookup.{eight}
 use Rattle.words.specs.Words.{wordAt, blockAt, Walked}
 use Rattle.words.proofs.Walks.{walk-as, walk-then}
 use Rattle.kalyna.specs.Round.{subKey, xorKey, unmix}

@@ -1,6 +1,6 @@
 -- The walks, one after another, are the block transformation.
 use mathlib.Core.Path.{_≡_, refl, sym, ap, _∙_, subst}
-use mathlib.Core.Logic.{_⊎_, ⊎-elim}
+use mathlib.Core.Logic.{⊎-elim}
 use mathlib.Core.List.{List}
 use Prim.Native.Nat.{ℕ, _+_, _-_, _*_, _<_, _≤_}
 use native.Mathlib.Nat.{mul-le-mul-left, mul-suc, mul-zero}
@@ -36,9 +36,6 @@ round-at c d n t ks s s′ at e et w =
 -- neither 2 nor 4
 pub eight-is : (c : ℕ) → Width c → (c ≡ 2 → ⊥) → (c ≡ 4 → ⊥) → c ≡ 8
 eight-is c w a b = ⊎-elim (λ e. absurd (a e)) (⊎-elim (λ e. absurd (b e)) (λ e. e)) w
-
-pub width-le : (c : ℕ) → Width c → c ≤ 8
-width-le c w = ⊎-elim (λ e. omega arith) (⊎-elim (λ e. omega arith) (λ e. omega arith)) w
 
 abbrev pub zeros : List ℕ
 zeros = replicate 8 0

@@ -83,7 +83,7 @@ fn seal2(tab: &[u8; 8192], s: &mut [u16], n: usize, t: usize, ks: &[u64])
     ensures { λ r. ⌜ Walked 2 n (seal 2 t (keysOf 2 (now (ks .entry)))) (now (s .entry)) (now (s .exit)) ⌝ }
 {
     if n == 1 {
-        seal_alone::seal2(tab, s, t, ks);
+        seal_alone2::seal2(tab, s, t, ks);
         return;
     }
     blocks::add_keys(s, n, 2, ks, 0);
@@ -97,7 +97,7 @@ fn seal4(tab: &[u8; 8192], s: &mut [u16], n: usize, t: usize, ks: &[u64])
     ensures { λ r. ⌜ Walked 4 n (seal 4 t (keysOf 4 (now (ks .entry)))) (now (s .entry)) (now (s .exit)) ⌝ }
 {
     if n == 1 {
-        seal_alone::seal4(tab, s, t, ks);
+        seal_alone4::seal4(tab, s, t, ks);
         return;
     }
     blocks::add_keys(s, n, 4, ks, 0);

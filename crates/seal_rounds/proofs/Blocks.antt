@@ -5,10 +5,10 @@ use Prim.Native.Nat.{ℕ, _+_, _*_, _/_, _%_}
 use native.Mathlib.Omega.{arith}
 use lib.ListN.{getD}
 use Rattle.common.specs.Places.{tab}
+use Rattle.common.proofs.Cases.{eight}
 use Rattle.field.specs.Column.{byteOf}
 use Rattle.lookup.specs.Table.{gather}
 use Rattle.lookup.proofs.Laws.{gather-ext}
-use Rattle.columns.proofs.Lookup.{eight}
 use Rattle.words.specs.Words.{blockAt}
 use Rattle.words.proofs.Laws.{Pieces}
 use Rattle.words.proofs.Walks.{low-0, low-1, low-2, low-3, high-0, high-1, high-2, high-3}

@@ -33,19 +33,19 @@ pub fn seal_call(
             8 * c
         }
         2 => {
-            streams::ctr(tab, &ks, c, t, side, text, out);
+            ctr_mode::ctr(tab, &ks, c, t, side, text, out);
             text.len()
         }
         3 => {
-            streams::ofb(tab, &ks, c, t, side, text, out);
+            ofb_mode::ofb(tab, &ks, c, t, side, text, out);
             text.len()
         }
         4 => {
-            streams::cfb(tab, &ks, c, t, side, text, out);
+            cfb_mode::cfb(tab, &ks, c, t, side, text, out);
             text.len()
         }
         5 => {
-            streams::uncfb(tab, &ks, c, t, side, text, out);
+            uncfb_mode::uncfb(tab, &ks, c, t, side, text, out);
             text.len()
         }
         6 => {

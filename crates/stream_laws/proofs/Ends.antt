@@ -15,12 +15,13 @@ use Rattle.kalyna.specs.State.{State, columnsOf, bytesOf}
 use Rattle.kalyna.proofs.Bytes.{seal-state}
 use Rattle.kalyna.specs.Block.{seal, sealBytes}
 use Rattle.blocks.specs.Blocks.{Width}
+use Rattle.blocks.proofs.Widths.{width-pos}
 use Rattle.modes.specs.Blocks as Text
 use Rattle.modes.specs.Stream.{addGamma, front, rear, ofbGamma, ofb, cfbGamma, cfb, uncfbGamma, uncfb}
 use Rattle.modes.specs.Cell.{blocksIn}
 use Rattle.stream_laws.specs.Gammas.{cellByte, Laid, added, Written, ofbFed, cfbFed}
 use Rattle.stream_laws.proofs.Out.{written-gamma}
-use Rattle.stream_laws.proofs.Widths.{width-pos, in-blocks, whole-le, rest-lt, next-whole}
+use Rattle.stream_laws.proofs.Widths.{in-blocks, whole-le, rest-lt, next-whole}
 use Rattle.stream_laws.proofs.Adding.{block-added, cells-added}
 use Rattle.stream_laws.proofs.Cells.{loaded}
 use Rattle.stream_laws.proofs.Modes.{xored-in, ofb-sealed, cfb-sealed, uncfb-sealed, rear-in, rear-last}

@@ -18,6 +18,7 @@ use Rattle.kalyna.specs.State.{State, columnsOf, bytesOf}
 use Rattle.kalyna.specs.Block.{seal, sealBytes}
 use Rattle.kalyna.proofs.Bytes.{seal-state, columns-bytes, bytesOf-bytes}
 use Rattle.blocks.specs.Blocks.{Width}
+use Rattle.blocks.proofs.Widths.{width-pos}
 use Rattle.modes.specs.Blocks as Text
 use Rattle.modes.specs.Stream.{front, rear, counter, ctrGamma, ctr, ofbGamma, cfbGamma, uncfbGamma}
 use Rattle.modes.specs.Cell.{blocksIn}
@@ -27,7 +28,7 @@ use Rattle.stream_laws.specs.Gammas.{cellByte, counted, Laid, ofbFed, cf
 use Rattle.stream_laws.proofs.Out.{written-gamma}
 use Rattle.stream_laws.proofs.Cells.{getD-blocks, block-puts, block-other, loaded}
 use Rattle.stream_laws.proofs.Counting.{count-is}
-use Rattle.stream_laws.proofs.Widths.{width-pos, in-blocks}
+use Rattle.stream_laws.proofs.Widths.{in-blocks}
 use Rattle.stream_laws.proofs.Adding.{cells-added}
 
 -- ---- one block

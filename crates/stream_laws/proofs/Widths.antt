@@ -1,21 +1,12 @@
 -- Blocks of a cell, at the three widths.
 use mathlib.Core.Path.{_≡_, sym, ap, _∙_, subst}
-use mathlib.Core.Logic.{_⊎_, ⊎-elim}
 use Prim.Native.Nat.{ℕ, suc, _+_, _-_, _*_, _/_, _<_, _≤_}
 use native.Mathlib.Nat.{mul-suc, mul-le-mul-left, mul-comm, mul-assoc, div-add-mod', mod-lt, suc-mul, mul-le-mul-right}
 use native.Mathlib.Numerals.{add-one}
 use native.Mathlib.Omega.{arith}
+use Rattle.blocks.proofs.Widths.{by-width}
 use Rattle.blocks.specs.Blocks.{Width}
 use Rattle.modes.specs.Cell.{blocksIn}
-
-pub by-width : (P : ℕ → Type 0) → P 2 → P 4 → P 8 → (c : ℕ) → Width c → P c
-by-width P a b d c w = ⊎-elim (λ e. subst P (sym e) a) (⊎-elim (λ e. subst P (sym e) b) (λ e. subst P (sym e) d)) w
-
-pub width-pos : (c : ℕ) → Width c → 0 < c
-width-pos = by-width (λ c. 0 < c) (omega arith) (omega arith) (omega arith)
-
-pub width-le : (c : ℕ) → Width c → c ≤ 8
-width-le = by-width (λ c. c ≤ 8) (omega arith) (omega arith) (omega arith)
 
 -- the blocks of a cell have room in it
 pub blocks-fit : (n c : ℕ) → Width c → n ≤ 1024 → 4 * (c * blocksIn (8 * c) n) ≤ 512

@@ -9,7 +9,7 @@ fn columns_are(ks: &[u64], want: &[u8]) -> bool {
         if ks.len() <= j {
             return false;
         }
-        if ks[j] != loads::column_at(want, i) {
+        if ks[j] != cells::bytes_at(want, i) {
             return false;
         }
         i += 8;

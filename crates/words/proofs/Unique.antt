@@ -1,12 +1,13 @@
 -- A walk's statement determines every piece: two results that meet it are equal.
-use mathlib.Core.Path.{_≡_, refl, sym, ap, ap₂, _∙_, subst}
+use mathlib.Core.Path.{_≡_, sym, ap, _∙_, subst}
 use mathlib.Core.List.{List}
-use Prim.Native.Nat.{ℕ, zero, suc, _+_, _-_, _*_, _/_, _%_, _^_, _<_, _≤_}
+use Prim.Native.Nat.{ℕ, _+_, _*_, _/_, _%_, _<_}
 use native.Mathlib.Nat.{div-add-mod, mod-lt, div-lt-iff-lt-mul, mul-comm}
 use native.Mathlib.Decide.{decLt}
 use native.Mathlib.Omega.{arith}
 use lib.ListN.{getD, length}
 use lib.Seq.{ext-getD}
+use Rattle.common.proofs.Cases.{four}
 use Rattle.common.proofs.Places.{getD-tab}
 use Rattle.words.specs.Words.{wordAt, blockAt, Walked}
 use Rattle.words.proofs.Laws.{Pieces}
@@ -39,13 +40,6 @@ module _ (a b c d a′ b′ c′ d′ : ℕ) (lb : b < 65536) (lc : c < 65536) (
 
   piece-3 : a ≡ a′
   piece-3 = sym (high a b lb) ∙ ap (λ x. x / 65536) rest-2 ∙ high a′ b′ lb′
-
-four : (P : ℕ → Type 0) → P 0 → P 1 → P 2 → P 3 → (i : ℕ) → i < 4 → P i
-four P a b c d zero l = a
-four P a b c d (suc zero) l = b
-four P a b c d (suc (suc zero)) l = c
-four P a b c d (suc (suc (suc zero))) l = d
-four P a b c d (suc (suc (suc (suc i)))) l = let z : ⊥ = omega arith in absurd z
 
 module _ (s s′ : List ℕ) (h : Pieces s) (h′ : Pieces s′) where
   pieces-of : (j : ℕ) → wordAt s j ≡ wordAt s′ j → (q : ℕ) → q < 4 → getD s (4 * j + q) 0 ≡ getD s′ (4 * j + q) 0

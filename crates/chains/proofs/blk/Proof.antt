@@ -4,7 +4,8 @@ use native.Mathlib.Omega.{arith}
 use denote.Ref.{now}
 use Rattle.kalyna.specs.Block.{sealBytes}
 use Rattle.blocks.specs.Blocks.{keysOf}
-use Rattle.chains.proofs.Laws.{take-drop-all, given, width-le}
+use Rattle.blocks.proofs.Widths.{width-le}
+use Rattle.chains.proofs.Laws.{take-drop-all, given}
 use borrow.Author.Needs.{needs}
 use Rattle.chains.proofs.blk.Statement.{statement}
 use Rattle.chains.proofs.blk.Tie as tie

@@ -5,7 +5,8 @@ use lib.ListN.{length}
 use denote.Ref.{now}
 use Rattle.kalyna.specs.Block.{sealBytes}
 use Rattle.blocks.specs.Blocks.{keysOf}
-use Rattle.chains.proofs.Laws.{take-drop-all, width-le, width-lt, cbc-is, whole-blocks, some-blocks}
+use Rattle.blocks.proofs.Widths.{width-le, width-lt}
+use Rattle.chains.proofs.Laws.{take-drop-all, cbc-is, whole-blocks, some-blocks}
 use borrow.Author.Needs.{needs}
 use Rattle.chains.proofs.cbc.Statement.{statement}
 use Rattle.chains.proofs.cbc.Tie as tie

@@ -7,9 +7,10 @@ use lib.ListN.{length}
 use denote.Ref.{now}
 use Rattle.kalyna.specs.Block.{sealBytes}
 use Rattle.blocks.specs.Blocks.{keysOf}
+use Rattle.blocks.proofs.Widths.{width-le}
 use Rattle.modes.specs.Chain.{chained}
 use Rattle.one_block.specs.Held.{held}
-use Rattle.chains.proofs.Laws.{width-le, block-room, next-place, chained-none, chained-more}
+use Rattle.chains.proofs.Laws.{block-room, next-place, chained-none, chained-more}
 use Rattle.chains.proofs.chain.Statement.{statement}
 use Rattle.chains.proofs.chain.Tie as tie
 use Rattle.chains.proofs.chain.Reads as reads

@@ -8,11 +8,12 @@ use lib.ListN.{drop, length}
 use denote.Ref.{now}
 use Rattle.kalyna.specs.Block.{sealBytes}
 use Rattle.blocks.specs.Blocks.{keysOf}
+use Rattle.blocks.proofs.Widths.{width-le}
 use Rattle.modes.specs.Chain.{chained}
 use Rattle.one_block.specs.Held.{held}
 use Rattle.one_block.proofs.Laws.{length-held}
 use Rattle.chains.specs.Links.{links}
-use Rattle.chains.proofs.Laws.{width-le, block-room, next-place, chained-none, chained-more, links-none, links-stored}
+use Rattle.chains.proofs.Laws.{block-room, next-place, chained-none, chained-more, links-none, links-stored}
 use Rattle.chains.proofs.chain_out.Statement.{statement}
 use Rattle.chains.proofs.chain_out.Tie as tie
 use Rattle.chains.proofs.chain_out.Reads as reads

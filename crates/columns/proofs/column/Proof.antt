@@ -4,8 +4,8 @@ use Rattle.field.specs.Xor.{xor}
 use Rattle.field.proofs.XorLaws.{zero-l, comm}
 use Rattle.lookup.specs.Table.{turned, gather}
 use Rattle.lookup.proofs.Laws.{half-ext}
-use Rattle.columns.proofs.Lookup.{four}
 use borrow.Author.Needs.{needs}
+use Rattle.common.proofs.Cases.{four}
 use Rattle.columns.proofs.column.Statement.{statement}
 use Rattle.columns.proofs.column.Tie as tie
 use Rattle.columns.proofs.column.Reads as reads

@@ -5,9 +5,9 @@ use lib.ListN.{take, drop, length}
 use denote.Ref.{now}
 use Rattle.modes.specs.Blocks.{xorBlock}
 use Rattle.one_block.specs.Held.{held}
-use Rattle.chains.proofs.Laws.{width-le, width-lt}
 use Rattle.fills.proofs.Laws.{filled-block, last-le, last-lt}
 use borrow.Author.Needs.{needs}
+use Rattle.blocks.proofs.Widths.{width-le, width-lt}
 use Rattle.fills.proofs.add_filled.Statement.{statement}
 use Rattle.fills.proofs.add_filled.Tie as tie
 use Rattle.fills.proofs.add_filled.Reads as reads

@@ -5,8 +5,9 @@ use lib.ListN.{length}
 use denote.Ref.{now}
 use Rattle.kalyna.specs.Block.{sealBytes}
 use Rattle.blocks.specs.Blocks.{keysOf}
+use Rattle.blocks.proofs.Widths.{width-le, width-lt}
 use Rattle.one_block.proofs.Laws.{length-held}
-use Rattle.chains.proofs.Laws.{take-drop-all, width-le, width-lt, some-blocks}
+use Rattle.chains.proofs.Laws.{take-drop-all, some-blocks}
 use Rattle.fills.proofs.Laws.{filled-room, cbp-is}
 use borrow.Author.Needs.{needs}
 use Rattle.fills.proofs.cbp.Statement.{statement}

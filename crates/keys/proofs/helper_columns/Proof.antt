@@ -5,11 +5,11 @@ use denote.Ref.{now}
 use lib.ListN.{take}
 use Rattle.words.specs.Words.{wordAt, blockAt}
 use Rattle.kalyna.specs.Keys.{helper}
-use Rattle.key_laws.proofs.Turns.{width-le}
 use Rattle.key_laws.proofs.Loops.{loaded, loaded-long}
 use Rattle.key_laws.proofs.Rounds.{noughts}
 use Rattle.key_laws.proofs.Filled.{upTo, none-yet, one-more, from-block}
 use borrow.Author.Needs.{needs}
+use Rattle.blocks.proofs.Widths.{width-le}
 use Rattle.keys.proofs.helper_columns.Statement.{statement}
 use Rattle.keys.proofs.helper_columns.Tie as tie
 use Rattle.keys.proofs.helper_columns.Reads as reads

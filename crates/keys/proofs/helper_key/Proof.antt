@@ -4,7 +4,7 @@ use native.Mathlib.Omega.{arith}
 use lib.ListN.{length}
 use denote.Ref.{now}
 use Rattle.words.proofs.Laws.{length-put}
-use Rattle.key_laws.proofs.Turns.{width-le, halves-le}
+use Rattle.key_laws.proofs.Turns.{halves-le}
 use Rattle.key_laws.proofs.Rounds.{noughts, start-is, helper-is}
 use borrow.Author.Needs.{needs}
 use Rattle.keys.proofs.helper_key.Statement.{statement}
@@ -12,6 +12,7 @@ use Rattle.keys.proofs.helper_key.Tie as tie
 use Rattle.keys.proofs.helper_key.Reads as reads
 use Rattle.keys.proofs.helper_key.Lts as lts
 use Rattle.blocks.proofs.add_keys.Reads as add-keys-reads
+use Rattle.blocks.proofs.Widths.{width-le}
 use Rattle.seal_block.proofs.round.Reads as round-reads
 use Rattle.words.proofs.put_word.Reads as put-word-reads
 

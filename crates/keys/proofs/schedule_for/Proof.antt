@@ -4,9 +4,9 @@ use Prim.Native.Nat.{_-_}
 use native.Mathlib.Omega.{arith}
 use lib.ListN.{length, take}
 use denote.Ref.{now}
+use Rattle.blocks.proofs.Widths.{width-le}
 use Rattle.words.specs.Words.{blockAt}
 use Rattle.key_laws.specs.Schedule.{scheduleOf}
-use Rattle.key_laws.proofs.Turns.{width-le}
 use Rattle.key_laws.proofs.Loops.{keys-fit, odd-fit, loaded, loaded-long}
 use Rattle.key_laws.proofs.Rounds.{noughts}
 use Rattle.key_laws.proofs.Schedule.{schedule-is}
@@ -14,9 +14,9 @@ use Rattle.keys.proofs.schedule_for.Statement.{statement}
 use Rattle.keys.proofs.schedule_for.Tie as tie
 use Rattle.keys.proofs.schedule_for.Reads as reads
 use Rattle.keys.proofs.schedule_for.Lts as lts
-use Rattle.keys.proofs.even_keys.Reads as even-keys-reads
+use Rattle.even_keys.proofs.even_keys.Reads as even-keys-reads
 use Rattle.keys.proofs.helper_key.Reads as helper-key-reads
-use Rattle.keys.proofs.odd_keys.Reads as odd-keys-reads
+use Rattle.odd_keys.proofs.odd_keys.Reads as odd-keys-reads
 use Rattle.loads.proofs.load.Reads as load-reads
 
 -- src/lib.rt:199:17

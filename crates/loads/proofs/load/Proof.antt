@@ -15,7 +15,7 @@ use Rattle.loads.proofs.load.Statement.{statement}
 use Rattle.loads.proofs.load.Tie as tie
 use Rattle.loads.proofs.load.Reads as reads
 use Rattle.loads.proofs.load.Lts as lts
-use Rattle.loads.proofs.column_at.Reads as column-at-reads
+use Rattle.cells.proofs.bytes_at.Reads as bytes-at-reads
 
 abbrev Inv-loop : tie.InvT-loop
 Inv-loop k₀ b n j₀ k j = (j ≤ n) × (length k ≡ length k₀) × (take j k ≡ columnsOf j b) × (drop j k ≡ drop j k₀)
@@ -29,12 +29,12 @@ unfolding columnsOf tab
 loop-holds c = (omega arith, refl, refl, refl)
 
 -- src/lib.rt:36:29
-mul-column-at : tie.Need-mul-column-at Inv-loop μ-loop
-mul-column-at c = search needs
+mul-bytes-at : tie.Need-mul-bytes-at Inv-loop μ-loop
+mul-bytes-at c = search needs
 
 -- src/lib.rt:36:16
-column-at-requires : tie.Need-column-at-requires Inv-loop μ-loop
-column-at-requires c κs = search needs
+bytes-at-requires : tie.Need-bytes-at-requires Inv-loop μ-loop
+bytes-at-requires c κs = search needs
 
 -- src/lib.rt:36:9
 mul-k : tie.Need-mul-k Inv-loop μ-loop
@@ -55,7 +55,7 @@ loop-less c = search needs
 -- src/lib.rt:35:5
 loop-again : tie.Need-loop-again Inv-loop μ-loop
 unfolding columnsOf
-loop-again c = (omega arith, length-set (c .before .before .loop .k) (c .before .before .loop .j) (c .column-at .result) ∙ c .before .before .loop .inv .1, fill (λ j. pack 8 (λ i. getD (now (c .before .before .before .before .before .args .b)) (8 * j + i) 0)) (c .before .before .loop .k) (c .before .before .loop .j) (c .column-at .result) (c .before .before .loop .inv .2) (omega (arith, c .before .before .loop .inv .1)) (c .column-at .ensures), drop-set-lt (c .before .before .loop .j + 1) (c .before .before .loop .k) (c .before .before .loop .j) (c .column-at .result) (omega arith) ∙ drop-more (c .before .before .loop .j) (c .before .before .loop .k) (now (c .before .before .before .before .before .args .k)) (c .before .before .loop .inv .3))
+loop-again c = (omega arith, length-set (c .before .before .loop .k) (c .before .before .loop .j) (c .bytes-at .result) ∙ c .before .before .loop .inv .1, fill (λ j. pack 8 (λ i. getD (now (c .before .before .before .before .before .args .b)) (8 * j + i) 0)) (c .before .before .loop .k) (c .before .before .loop .j) (c .bytes-at .result) (c .before .before .loop .inv .2) (omega (arith, c .before .before .loop .inv .1)) (c .bytes-at .ensures), drop-set-lt (c .before .before .loop .j + 1) (c .before .before .loop .k) (c .before .before .loop .j) (c .bytes-at .result) (omega arith) ∙ drop-more (c .before .before .loop .j) (c .before .before .loop .k) (now (c .before .before .before .before .before .args .k)) (c .before .before .loop .inv .3))
 
 -- src/lib.rt:30:1
 same-length : tie.Need-same-length Inv-loop μ-loop
@@ -72,8 +72,8 @@ load-spec =
     Inv-loop
     μ-loop
     loop-holds
-    mul-column-at
-    column-at-requires
+    mul-bytes-at
+    bytes-at-requires
     mul-k
     slice-write-k
     add-j

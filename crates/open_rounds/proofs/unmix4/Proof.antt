@@ -4,10 +4,10 @@ use native.Mathlib.Omega.{arith}
 use lib.ListN.{getD}
 use denote.Ref.{now}
 use Rattle.field.proofs.XorLaws.{lt-two}
-use Rattle.columns.proofs.Lookup.{four, eight}
 use Rattle.words.proofs.Laws.{Pieces}
 use Rattle.open_rounds.proofs.Blocks.{block-4}
 use borrow.Author.Needs.{needs}
+use Rattle.common.proofs.Cases.{four}
 use Rattle.open_rounds.proofs.unmix4.Statement.{statement}
 use Rattle.open_rounds.proofs.unmix4.Tie as tie
 use Rattle.open_rounds.proofs.unmix4.Reads as reads

@@ -6,7 +6,7 @@ use lib.ListN.{length}
 use lib.Seq.{length-take-le}
 use Rattle.kalyna.specs.Block.{unsealBytes}
 use Rattle.blocks.specs.Blocks.{keysOf}
-use Rattle.key_laws.proofs.Turns.{width-le}
+use Rattle.blocks.proofs.Widths.{width-le}
 use Rattle.modes.specs.Chain.{uncbc}
 use Rattle.modes.proofs.Chain.{length-uncbc}
 use Rattle.openings.proofs.Laws.{whole-least, none-marked, marked-handed}

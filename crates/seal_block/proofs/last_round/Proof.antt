@@ -7,7 +7,7 @@ use denote.Ref.{now}
 use Rattle.words.specs.Words.{Walked}
 use Rattle.kalyna.specs.Block.{rounds}
 use Rattle.blocks.specs.Blocks.{keysOf}
-use Rattle.seal_block.proofs.Laws.{round-at, eight-is, width-le, last-is, rounds-more, rounds-none, key-room, next-key, seal-is}
+use Rattle.seal_block.proofs.Laws.{round-at, eight-is, last-is, rounds-more, rounds-none, key-room, next-key, seal-is}
 use Rattle.rounds.specs.Rounds.{keyAt}
 use borrow.Author.Needs.{needs}
 use Rattle.seal_block.proofs.last_round.Statement.{statement}
@@ -15,6 +15,7 @@ use Rattle.seal_block.proofs.last_round.Tie as tie
 use Rattle.seal_block.proofs.last_round.Reads as reads
 use Rattle.seal_block.proofs.last_round.Lts as lts
 use Rattle.blocks.proofs.add_keys.Reads as add-keys-reads
+use Rattle.blocks.proofs.Widths.{width-le}
 use Rattle.seal_block.proofs.round.Reads as round-reads
 
 -- src/lib.rt:48:25

@@ -7,7 +7,7 @@ use denote.Ref.{now}
 use Rattle.words.specs.Words.{Walked}
 use Rattle.kalyna.specs.Block.{rounds}
 use Rattle.blocks.specs.Blocks.{keysOf}
-use Rattle.seal_block.proofs.Laws.{round-at, eight-is, width-le, last-is, rounds-more, rounds-none, key-room, next-key, seal-is}
+use Rattle.seal_block.proofs.Laws.{round-at, eight-is, last-is, rounds-more, rounds-none, key-room, next-key, seal-is}
 use borrow.Author.Needs.{needs}
 use Rattle.seal_block.proofs.round.Statement.{statement}
 use Rattle.seal_block.proofs.round.Tie as tie

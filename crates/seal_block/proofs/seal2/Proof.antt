@@ -12,7 +12,7 @@ use Rattle.seal_block.proofs.seal2.Tie as tie
 use Rattle.seal_block.proofs.seal2.Reads as reads
 use Rattle.seal_block.proofs.seal2.Lts as lts
 use Rattle.blocks.proofs.add_keys.Reads as add-keys-reads
-use Rattle.seal_alone.proofs.seal2.Reads as seal2-reads
+use Rattle.seal_alone2.proofs.seal2.Reads as seal2-reads
 use Rattle.seal_block.proofs.last_round.Reads as last-round-reads
 use Rattle.seal_block.proofs.rounds2.Reads as rounds2-reads
 

@@ -12,7 +12,7 @@ use Rattle.seal_block.proofs.seal4.Tie as tie
 use Rattle.seal_block.proofs.seal4.Reads as reads
 use Rattle.seal_block.proofs.seal4.Lts as lts
 use Rattle.blocks.proofs.add_keys.Reads as add-keys-reads
-use Rattle.seal_alone.proofs.seal4.Reads as seal4-reads
+use Rattle.seal_alone4.proofs.seal4.Reads as seal4-reads
 use Rattle.seal_block.proofs.last_round.Reads as last-round-reads
 use Rattle.seal_block.proofs.rounds4.Reads as rounds4-reads
 

@@ -4,7 +4,6 @@ use native.Mathlib.Omega.{arith}
 use lib.ListN.{getD}
 use denote.Ref.{now}
 use Rattle.field.proofs.XorLaws.{lt-two}
-use Rattle.columns.proofs.Lookup.{four, eight}
 use Rattle.words.proofs.Laws.{Pieces}
 use Rattle.seal_rounds.proofs.Blocks.{block-2}
 use borrow.Author.Needs.{needs}

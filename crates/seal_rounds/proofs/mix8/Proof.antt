@@ -4,10 +4,10 @@ use native.Mathlib.Omega.{arith}
 use lib.ListN.{getD}
 use denote.Ref.{now}
 use Rattle.field.proofs.XorLaws.{lt-two}
-use Rattle.columns.proofs.Lookup.{four, eight}
 use Rattle.words.proofs.Laws.{Pieces}
 use Rattle.seal_rounds.proofs.Blocks.{block-8}
 use borrow.Author.Needs.{needs}
+use Rattle.common.proofs.Cases.{eight}
 use Rattle.seal_rounds.proofs.mix8.Statement.{statement}
 use Rattle.seal_rounds.proofs.mix8.Tie as tie
 use Rattle.seal_rounds.proofs.mix8.Reads as reads

@@ -13,10 +13,10 @@ use Rattle.chains.proofs.blk.Reads as blk-reads
 use Rattle.chains.proofs.cbc.Reads as cbc-reads
 use Rattle.fills.proofs.cbp.Reads as cbp-reads
 use Rattle.keys.proofs.schedule.Reads as schedule-reads
-use Rattle.streams.proofs.cfb.Reads as cfb-reads
-use Rattle.streams.proofs.ctr.Reads as ctr-reads
-use Rattle.streams.proofs.ofb.Reads as ofb-reads
-use Rattle.streams.proofs.uncfb.Reads as uncfb-reads
+use Rattle.cfb_mode.proofs.cfb.Reads as cfb-reads
+use Rattle.ctr_mode.proofs.ctr.Reads as ctr-reads
+use Rattle.ofb_mode.proofs.ofb.Reads as ofb-reads
+use Rattle.uncfb_mode.proofs.uncfb.Reads as uncfb-reads
 use Rattle.tags.proofs.chk.Reads as chk-reads
 use Rattle.tags.proofs.mac.Reads as mac-reads
 

@@ -6,9 +6,9 @@ use lib.ListN.{take, drop, length}
 use denote.Ref.{now}
 use Rattle.modes.specs.Blocks.{xorBlock}
 use Rattle.one_block.specs.Held.{held}
-use Rattle.chains.proofs.Laws.{width-lt}
 use Rattle.tags.proofs.Laws.{last-whole, last-begun, added-whole, added-filled}
 use borrow.Author.Needs.{needs}
+use Rattle.blocks.proofs.Widths.{width-lt}
 use Rattle.tags.proofs.add_last.Statement.{statement}
 use Rattle.tags.proofs.add_last.Tie as tie
 use Rattle.tags.proofs.add_last.Reads as reads

@@ -4,8 +4,8 @@ use denote.Ref.{now}
 use Rattle.kalyna.specs.Block.{sealBytes}
 use Rattle.kalyna.proofs.Bytes.{sealBytes-bytes}
 use Rattle.blocks.specs.Blocks.{keysOf}
+use Rattle.blocks.proofs.Widths.{width-le}
 use Rattle.modes.proofs.Mac.{mac-bytes}
-use Rattle.chains.proofs.Laws.{width-le}
 use Rattle.tags.proofs.Same.{chk-is, chk-out}
 use borrow.Author.Needs.{needs}
 use Rattle.tags.proofs.chk.Statement.{statement}

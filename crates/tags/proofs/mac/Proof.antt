@@ -7,7 +7,8 @@ use denote.Ref.{now}
 use Rattle.kalyna.specs.Block.{sealBytes}
 use Rattle.kalyna.proofs.Bytes.{sealBytes-bytes}
 use Rattle.blocks.specs.Blocks.{keysOf}
-use Rattle.chains.proofs.Laws.{given, width-le, width-lt}
+use Rattle.blocks.proofs.Widths.{width-le, width-lt}
+use Rattle.chains.proofs.Laws.{given}
 use Rattle.tags.proofs.Laws.{zero-held, last-room, mac-is}
 use borrow.Author.Needs.{needs}
 use Rattle.tags.proofs.mac.Statement.{statement}

@@ -4,7 +4,8 @@ use native.Mathlib.Omega.{arith}
 use denote.Ref.{now}
 use Rattle.kalyna.specs.Block.{sealBytes}
 use Rattle.blocks.specs.Blocks.{keysOf}
-use Rattle.chains.proofs.Laws.{given, width-le}
+use Rattle.blocks.proofs.Widths.{width-le}
+use Rattle.chains.proofs.Laws.{given}
 use Rattle.tags.proofs.Laws.{number-held}
 use borrow.Author.Needs.{needs}
 use Rattle.tags.proofs.mask.Statement.{statement}

@@ -2,8 +2,9 @@ use native.Mathlib.Nat.{mul-one}
 use native.Mathlib.Omega.{arith}
 use denote.Ref.{now}
 use Rattle.blocks.specs.Blocks.{keysOf}
+use Rattle.blocks.proofs.Widths.{width-lt}
 use Rattle.open_laws.proofs.Equal.{walk-unseal}
-use Rattle.chains.proofs.Laws.{given, width-lt}
+use Rattle.chains.proofs.Laws.{given}
 use Rattle.unchains.proofs.Laws.{opened-is, first-columns}
 use borrow.Author.Needs.{needs}
 use Rattle.unchains.proofs.open_in.Statement.{statement}

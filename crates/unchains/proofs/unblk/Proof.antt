@@ -4,7 +4,8 @@ use native.Mathlib.Omega.{arith}
 use denote.Ref.{now}
 use Rattle.kalyna.specs.Block.{unsealBytes}
 use Rattle.blocks.specs.Blocks.{keysOf}
-use Rattle.chains.proofs.Laws.{given, take-drop-all, width-le}
+use Rattle.blocks.proofs.Widths.{width-le}
+use Rattle.chains.proofs.Laws.{given, take-drop-all}
 use borrow.Author.Needs.{needs}
 use Rattle.unchains.proofs.unblk.Statement.{statement}
 use Rattle.unchains.proofs.unblk.Tie as tie

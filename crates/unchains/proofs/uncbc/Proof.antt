@@ -2,9 +2,9 @@ use Prim.Native.Nat.{_*_, _/_}
 use native.Mathlib.Omega.{arith}
 use lib.ListN.{length}
 use denote.Ref.{now}
-use Rattle.chains.proofs.Laws.{width-lt}
 use Rattle.unchains.proofs.Laws.{whole-columns, some-whole, stored-all}
 use borrow.Author.Needs.{needs}
+use Rattle.blocks.proofs.Widths.{width-lt}
 use Rattle.unchains.proofs.uncbc.Statement.{statement}
 use Rattle.unchains.proofs.uncbc.Tie as tie
 use Rattle.unchains.proofs.uncbc.Reads as reads

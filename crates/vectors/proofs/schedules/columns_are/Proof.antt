@@ -25,8 +25,8 @@ mul-if2 c = search needs
 shared-slice-read-if2 : tie.Need-shared-slice-read-if2 Inv-loop μ-loop
 shared-slice-read-if2 c = search needs
 
-column-at-requires : tie.Need-column-at-requires Inv-loop μ-loop
-column-at-requires c κs = search needs
+bytes-at-requires : tie.Need-bytes-at-requires Inv-loop μ-loop
+bytes-at-requires c κs = search needs
 
 returns-2 : tie.Need-returns-2 Inv-loop μ-loop
 returns-2 c = search needs
@@ -54,7 +54,7 @@ columns-are-spec =
     returns
     mul-if2
     shared-slice-read-if2
-    column-at-requires
+    bytes-at-requires
     returns-2
     add-i
     loop-less

@@ -1,0 +1,1 @@
+// Laws of a block that stands alone; they are in proofs/.
