@@ -8,6 +8,7 @@ use lib.Dec.{eqb, leb}
 use borrow.Author.Tests.{leb-true, lt-leb, eq-eqb, ne-eqb}
 use Rattle.common.specs.Choice.{pick}
 use Rattle.common.specs.Answer.{Value}
+use Rattle.common.proofs.Choices.{false-true, pick-both}
 use Rattle.tree.specs.Bounds.{ofRow, argumentsIn, argumentsOf, whenKind}
 use Rattle.tree.specs.Calls.{calls, plain, cipher}
 use Rattle.tree.proofs.Table.{call-kind}
@@ -46,9 +47,6 @@ three-table : allBelow 0x01B6 threeSays ≡ true
 unfolding allBelow threeSays cipherKind argumentsOf argumentsIn ofRow calls plain cipher pick bare sideOf callOf needOf tablesFor opens
 three-table = refl
 
-false-true : false ≡ true → ⊥
-false-true e = let z : _≡_ {A = ℕ} 0 1 = cc in omega arith
-
 pick-holds : (b : Bool) (x y : Bool) → b ≡ true → pick b x y ≡ true → x ≡ true
 unfolding pick
 pick-holds true x y e h = h
@@ -58,11 +56,6 @@ pick-other : (b : Bool) (x y : Bool) → b ≡ false → pick b x y ≡ true →
 unfolding pick
 pick-other true x y e h = absurd (false-true (sym e))
 pick-other false x y e h = h
-
-pick-first : (b c : Bool) → pick b c false ≡ true → (b ≡ true) × (c ≡ true)
-unfolding pick
-pick-first true c e = (refl, e)
-pick-first false c e = absurd (false-true e)
 
 pick-second : (b c : Bool) → pick b false c ≡ true → (b ≡ false) × (c ≡ true)
 unfolding pick
@@ -77,7 +70,7 @@ pub record Says (k : ℕ) : Type 0 where
 says-of : (k : ℕ) → cipherKind k ≡ true → Says k
 unfolding cipherKind
 says-of k e =
-    let (a, b) = pick-first (leb 0x0100 k) (leb (needOf (numberIn k)) (tablesFor k)) e in
+    let (a, b) = pick-both (leb 0x0100 k) (leb (needOf (numberIn k)) (tablesFor k)) e in
     record { high = leb-true 0x0100 k a; need = leb-true (needOf (numberIn k)) (tablesFor k) b }
 
 bare-none : (s : Side) → bare s ≡ true → s ≡ Side.none
@@ -91,7 +84,7 @@ module _ (k : ℕ) (e : argumentsOf k ≡ 2) (h : 0x0013 < k) where
   two-case : (bare (sideOf (callOf (numberIn k))) ≡ true) × (cipherKind k ≡ true)
   unfolding twoSays
   two-case =
-      pick-first _ _ (pick-other (leb k 0x0013) true _ (lt-leb k 0x0013 h)
+      pick-both _ _ (pick-other (leb k 0x0013) true _ (lt-leb k 0x0013 h)
       (pick-holds (eqb (argumentsOf k) 2) _ true (eq-eqb (argumentsOf k) 2 e) (all-at 0x01B6 twoSays k two-table (let c = call-kind k 1 e in omega (arith, c .1)))))
 
   pub two-says : Says k

@@ -12,7 +12,7 @@ use Rattle.common.specs.Places.{tab}
 use Rattle.common.proofs.Places.{tab-ext}
 use Rattle.field.specs.Column.{byteOf, pack}
 use Rattle.field.specs.Xor.{xor}
-use Rattle.field.proofs.PackLaws.{byte-xor, byte-pack}
+use Rattle.field.proofs.PackLaws.{byte-xor, byte-pack, quotient, remainder}
 use Rattle.words.specs.Words.{wordAt}
 use Rattle.words.proofs.Laws.{Pieces}
 use Rattle.words.proofs.Walks.{low-0, low-1, low-2, low-3, high-0, high-1, high-2, high-3}
@@ -27,12 +27,6 @@ sets-eight l at w = simp (towards-suc, div-one)
 -- byte n of the columns from w on
 abbrev pub byte : List ℕ → ℕ → ℕ → ℕ
 byte s w n = byteOf (wordAt s (w + n / 8)) (n % 8)
-
-quotient : (j i : ℕ) → i < 8 → (8 * j + i) / 8 ≡ j
-quotient j i l = omega arith
-
-remainder : (j i : ℕ) → i < 8 → (8 * j + i) % 8 ≡ i
-remainder j i l = omega arith
 
 -- eight more bytes of the columns
 pub eight-stored : (s : List ℕ) (w j x : ℕ) → x ≡ wordAt s (w + j) → tab 8 (byteOf x) ≡ tab 8 (λ k. byte s w (8 * j + k))

@@ -1,13 +1,13 @@
 -- Bytes and the numbers that they make: each undoes the other, and xor passes through.
 use mathlib.Core.Path.{_≡_, refl, sym, ap, ap₂, _∙_, subst}
-use Prim.Native.Nat.{ℕ, zero, suc, _+_, _*_, _/_, _%_, _^_, _<_, _≤_}
-use native.Mathlib.Nat.{mod-lt, div-one, pow-suc, pow-succ', div-div-eq-div-mul, div-add-mod', div-lt-iff-lt-mul, not-suc-le-zero, zero-lt-suc, le-of-suc-le-suc, zero-mul, zero-add}
+use Prim.Native.Nat.{ℕ, zero, suc, _+_, _*_, _/_, _%_, _^_, _<_}
+use native.Mathlib.Nat.{mod-lt, mod-one, mul-one, add-zero, suc-add, mul-assoc, div-one, pow-suc, pow-succ', div-div-eq-div-mul, div-add-mod', div-lt-iff-lt-mul, not-suc-le-zero, zero-lt-suc, le-of-suc-le-suc, zero-add}
 use native.Mathlib.Omega.{arith}
-use lib.Arith.{digits-lt, digits-div, digits-mod}
+use lib.Arith.{digits-lt, digits-div, digits-mod, mod-mul}
+use lib.Pow.{pow-add}
 use Rattle.field.specs.Xor.{xor}
 use Rattle.field.specs.Mixing.{xsum}
 use Rattle.field.specs.Column.{byteOf, pack}
-use Rattle.field.specs.Field.{times}
 use Rattle.field.specs.Mixing.{product, coef}
 use mathlib.Core.List.{List}
 use Rattle.field.proofs.XorLaws as X
@@ -108,3 +108,40 @@ word-pack f = ap (λ x. (((((((x * 256 + f 6) * 256 + f 5) * 256 + f 4) * 256 + 
 pub eight-bytes : (f : ℕ → ℕ) (w7 w6 w5 w4 w3 w2 w1 w0 : ℕ) → w7 ≡ f 7 → w6 ≡ f 6 → w5 ≡ f 5 → w4 ≡ f 4 → w3 ≡ f 3 → w2 ≡ f 2 → w1 ≡ f 1 → w0 ≡ f 0
     → (((((((w7 * 256 + w6) * 256 + w5) * 256 + w4) * 256 + w3) * 256 + w2) * 256 + w1) * 256 + w0) ≡ pack 8 f
 eight-bytes f w7 w6 w5 w4 w3 w2 w1 w0 e7 e6 e5 e4 e3 e2 e1 e0 = cc (word-pack f)
+
+-- ---- bytes at their places
+
+pub quotient : (j i : ℕ) → i < 8 → (8 * j + i) / 8 ≡ j
+quotient j i l = omega arith
+
+pub remainder : (j i : ℕ) → i < 8 → (8 * j + i) % 8 ≡ i
+remainder j i l = omega arith
+
+pub power : (n : ℕ) → 0 < 256 ^ n
+power zero = omega arith
+power (suc n) = omega (arith, power n, pow-suc 256 n)
+
+-- the lowest n bytes of a number
+pub pack-low : (n w : ℕ) → pack n (byteOf w) ≡ w % 256 ^ n
+unfolding pack
+pack-low zero w = sym (mod-one w)
+pack-low (suc n) w =
+    ap₂ (λ (x y : ℕ). x * 256 + y) (pack-ext n (λ i. byteOf w (suc i)) (byteOf (w / 256)) (λ i l. byteOf-suc w i) ∙ pack-low n (w / 256)) (byteOf-zero w)
+    ∙ sym (mod-mul w {m = 256 ^ n} {c = 256} (power n) (omega arith)) ∙ ap (λ x. w % x) (sym (pow-suc 256 n))
+
+-- from byte q on
+pub byte-after : (w q i : ℕ) → byteOf w (q + i) ≡ byteOf (w / 256 ^ q) i
+unfolding byteOf
+byte-after w q i = ap (λ x. x % 256) (ap (λ x. w / x) (pow-add 256 q i) ∙ sym (div-div-eq-div-mul w (256 ^ q) (256 ^ i)))
+
+-- n bytes and then m bytes
+pub pack-add : (n m : ℕ) (f : ℕ → ℕ) → pack (n + m) f ≡ pack m (λ i. f (n + i)) * 256 ^ n + pack n f
+unfolding pack
+pack-add zero m f = ap (λ k. pack k f) (zero-add m) ∙ pack-ext m f (λ i. f (0 + i)) (λ i l. ap f (sym (zero-add i))) ∙ sym (ap (λ x. x + 0) (mul-one (pack m (λ i. f (0 + i)))) ∙ add-zero (pack m (λ i. f (0 + i))))
+pack-add (suc n) m f =
+    ap (λ k. pack k f) (suc-add n m) ∙ ap (λ x. x * 256 + f 0) (pack-add n m (λ i. f (suc i)))
+    ∙ over (pack m (λ i. f (suc (n + i)))) (256 ^ n) (pack n (λ i. f (suc i))) (f 0)
+    ∙ ap₂ (λ (x y : ℕ). x * y + (pack n (λ i. f (suc i)) * 256 + f 0)) (pack-ext m _ _ (λ i l. ap f (sym (suc-add n i)))) (sym (pow-suc 256 n))
+  where
+    over : (a p b x : ℕ) → (a * p + b) * 256 + x ≡ a * (p * 256) + (b * 256 + x)
+    over a p b x = omega (arith, mul-assoc a p 256)

@@ -1,11 +1,11 @@
 -- Laws of xor.
 use mathlib.Core.Path.{_≡_, refl, sym, ap, ap₂, _∙_, subst}
 use Prim.Native.Nat.{ℕ, zero, suc, _+_, _*_, _/_, _%_, _^_, _<_}
-use native.Mathlib.Nat.{mod-lt, add-zero, div-lt-iff-lt-mul, mul-comm, pow-suc}
+use native.Mathlib.Nat.{mod-lt, div-lt-iff-lt-mul, mul-comm, pow-suc}
 use lib.Pow.{pow-pos, split}
 use native.Mathlib.Omega.{arith}
 use lib.Arith.{bin-ind}
-use lib.Bits.{bitXor, differ, xor-step, xor-comm, xor-self, xor-zero-l, xor-zero-r, xor-lt, xor-mod, xor-shr, xor-block, xor-shifted}
+use lib.Bits.{differ, xor-step, xor-comm, xor-self, xor-zero-r, xor-lt, xor-mod, xor-shr, xor-block, xor-shifted}
 use Rattle.field.specs.Xor.{xor}
 
 pub comm : (a b : ℕ) → xor a b ≡ xor b a
@@ -77,6 +77,10 @@ assoc = bin-ind (λ (a : ℕ). (b c : ℕ) → xor (xor a b) c ≡ xor a (xor b 
 -- what is xored twice is gone
 pub twice : (a b : ℕ) → xor (xor a b) b ≡ a
 twice a b = assoc a b b ∙ ap (xor a) (self b) ∙ zero-r a
+
+-- numbers whose xor is 0 are equal
+pub none : (a b : ℕ) → xor a b ≡ 0 → a ≡ b
+none a b e = sym (twice a b) ∙ ap (λ x. xor x b) e ∙ zero-l b
 
 -- (a ^ b) ^ (c ^ d) = (a ^ c) ^ (b ^ d)
 pub swap4 : (a b c d : ℕ) → xor (xor a b) (xor c d) ≡ xor (xor a c) (xor b d)

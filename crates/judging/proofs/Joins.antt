@@ -1,15 +1,16 @@
 -- What the checks tell of a cell's answer and of its delivery.
 use mathlib.Core.Bool.{Bool, true, false}
-use mathlib.Core.Path.{_≡_, refl, sym, ap, ap₂, _∙_, subst}
-use mathlib.Core.List.{List, [], _∷_, _++_}
-use Prim.Native.Nat.{ℕ, zero, suc, _+_, _*_, _/_, _<_, _≤_}
+use mathlib.Core.Path.{_≡_, refl, sym, ap, _∙_, subst}
+use mathlib.Core.List.{List, _++_}
+use Prim.Native.Nat.{ℕ, _<_, _≤_}
 use native.Mathlib.Omega.{arith}
-use borrow.Author.Tests.{ltb-true, ltb-false, lt-leb, le-leb}
-use lib.Dec.{eqb, leb, ltb}
+use borrow.Author.Tests.{ltb-true, ltb-false, le-leb}
+use lib.Dec.{ltb}
 use lib.ListN.{length, drop}
 use Rattle.common.specs.Choice.{pick}
-use Rattle.common.specs.Answer.{Value, Answer, Delivered, deliver, refusal}
+use Rattle.common.specs.Answer.{Value, Answer, deliver, refusal}
 use Rattle.common.specs.Answer.Answer.{value, refused}
+use Rattle.common.proofs.Delivering.{deliver-short}
 use Rattle.suites.specs.Suites.{suiteOf, blockBytes}
 use Rattle.suites.specs.declared.Suite.{Suite}
 use Rattle.suites.specs.declared.Named.{Named}
@@ -18,11 +19,11 @@ use Rattle.modes.specs.Stream as Stream
 use Rattle.modes.specs.Chain as Chain
 use Rattle.modes.specs.Fill.{fill, unfill}
 use Rattle.modes.specs.Mac as Mac
-use Rattle.modes.specs.Cell.{Call, sideOf, shapeOf, keyWrong, ivWrong, textEmpty, textLong, textPartial, tagWrong, wraps, made, sealing, opening, checked, suited, cell}
+use Rattle.modes.specs.Cell.{Call, sideOf, shapeOf, keyWrong, ivWrong, textEmpty, textLong, textPartial, tagWrong, wraps, made, sealing, opening, checked, cell}
 use Rattle.modes.proofs.Stream.{length-gamma, length-cfb, length-uncfb}
 use Rattle.modes.proofs.Chain.{length-cbc, length-uncbc}
 use Rattle.modes.proofs.Fill.{not-both, length-fill, unfill-either}
-use Rattle.modes.proofs.Suites.{sized, cipher-of}
+use Rattle.modes.proofs.Suites.{cipher-of}
 use Rattle.modes.proofs.Checks.{Past, Ordered, each-answer, passed}
 use Rattle.modes.proofs.Cell.{Makes, ctr-makes, cell-known, cell-unknown}
 use Rattle.modes.proofs.Mac.{mac-bytes, chk-either}
@@ -61,12 +62,6 @@ module _ (n : ℕ) (s : Suite) (key side text : Value) (k : suiteOf n ≡ Known 
       long-as _ _ _ refl (chk-either (blockBytes s) (sealing s key) side text (λ v. length v ≡ 1) refl refl)
 
 -- ---- refused by lengths
-
--- an output room shorter than the value
-pub deliver-short : (v : Value) (out : List ℕ) → length out < length v → deliver (value v) out ≡ refusal 9 out
-unfolding deliver pick
-deliver-short v out h =
-    ap (λ b. pick b (record { number = 0; count = length v; out = v ++ drop (length v) out }) (refusal 9 out)) (lt-leb (length v) (length out) h)
 
 -- one that holds it
 pub deliver-fits : (v out after : List ℕ) (n : ℕ) → length v ≡ n → n ≤ length out → after ≡ v ++ drop n out

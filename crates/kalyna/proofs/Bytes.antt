@@ -1,29 +1,21 @@
 -- Bytes and columns are each other's, so the theorems on blocks hold on bytes; round keys are states.
 use mathlib.Core.Bool.{Bool, true, false}
-use mathlib.Core.Path.{_≡_, refl, sym, ap, ap₂, _∙_, subst}
+use mathlib.Core.Path.{_≡_, sym, ap, ap₂, _∙_, subst}
 use mathlib.Core.List.{List}
-use Prim.Native.Nat.{ℕ, _+_, _-_, _*_, _/_, _%_, _^_, _<_, _≤_}
+use Prim.Native.Nat.{ℕ, _+_, _*_, _/_, _%_, _<_}
 use native.Mathlib.Nat.{mod-lt}
 use native.Mathlib.Omega.{arith}
 use lib.Dec.{eqb}
-use lib.ListN.{getD, length}
+use lib.ListN.{getD}
 use Rattle.common.specs.Choice.{pick}
-use Rattle.common.specs.Places.{tab}
 use Rattle.common.proofs.Places.{getD-tab, length-tab, tab-ext, tab-self}
 use Rattle.field.specs.Column.{byteOf, pack}
-use Rattle.field.proofs.PackLaws.{byteOf-lt, byte-pack, pack-byte, pack-ext, pack-lt}
+use Rattle.field.proofs.PackLaws.{byteOf-lt, byte-pack, pack-byte, pack-ext, pack-lt, quotient, remainder}
 use Rattle.kalyna.specs.State.{State, Bytes, columnsOf, bytesOf}
-use Rattle.kalyna.specs.Round.{addKey, ssm}
 use Rattle.kalyna.specs.Block.{seal, unseal, sealBytes, unsealBytes}
-use Rattle.kalyna.specs.Keys.{evenFrom, evenKey, oddTurn, oddKey, roundKeyWith, roundKey, helper}
+use Rattle.kalyna.specs.Keys.{evenFrom, evenKey, oddTurn, oddKey, roundKeyWith, roundKey}
 use Rattle.kalyna.proofs.Rows.{tab-state}
 use Rattle.kalyna.proofs.Undo.{Keys, add-state, subtract-state, unseal-seal, seal-unseal}
-
-quotient : (j i : ℕ) → i < 8 → (8 * j + i) / 8 ≡ j
-quotient j i l = omega arith
-
-remainder : (j i : ℕ) → i < 8 → (8 * j + i) % 8 ≡ i
-remainder j i l = omega arith
 
 place : (n : ℕ) → 8 * (n / 8) + n % 8 ≡ n
 place n = omega arith

@@ -2,12 +2,12 @@
 use mathlib.Core.Path.{_≡_, sym, ap, ap₂, _∙_, subst}
 use mathlib.Core.Logic.{_⊎_, ⊎-elim}
 use mathlib.Core.List.{List}
-use Prim.Native.Nat.{ℕ, zero, suc, _+_, _-_, _*_, _/_, _%_, _^_, _<_, _≤_}
-use native.Mathlib.Nat.{mod-lt, mod-eq-of-lt, pow-suc, div-div-eq-div-mul, div-lt-iff-lt-mul, add-comm, mul-assoc, add-zero, zero-add, mul-one, mod-one, suc-add, mul-le-mul-right}
+use Prim.Native.Nat.{ℕ, _+_, _-_, _*_, _/_, _%_, _^_, _<_, _≤_}
+use native.Mathlib.Nat.{mod-lt, mod-eq-of-lt, div-lt-iff-lt-mul, add-comm, mul-le-mul-right}
 use native.Mathlib.Decide.{ℕ-discrete}
 use native.Mathlib.Omega.{arith}
 use lib.Dec.{eqb}
-use lib.Arith.{mod-mul, digits-lt}
+use lib.Arith.{digits-lt}
 use lib.Pow.{pow-add}
 use lib.Bits.{bitAnd, and-mask}
 use lib.ListN.{getD, take, drop}
@@ -19,7 +19,7 @@ use Rattle.common.specs.Places.{tab}
 use Rattle.common.proofs.Places.{getD-tab}
 use Rattle.common.proofs.Choices.{pick-true, pick-false}
 use Rattle.field.specs.Column.{byteOf, pack}
-use Rattle.field.proofs.PackLaws.{pack-ext, byteOf-zero, byteOf-suc}
+use Rattle.field.proofs.PackLaws.{pack-ext, power, pack-low, byte-after, pack-add}
 use Rattle.kalyna.specs.State.{State, columnsOf, bytesOf}
 use Rattle.kalyna.specs.Keys.{turnKey, evenInput, oddTurn, oddKey}
 use Rattle.blocks.specs.Blocks.{Width}
@@ -120,35 +120,6 @@ even-input c kc k e j h p l = go (ℕ-discrete c kc)
     go (no n) = ⊎-elim (λ e. absurd (n (sym e))) (λ q. half n q) h
 
 -- ---- the bytes of an odd key
-
-power : (n : ℕ) → 0 < 256 ^ n
-power zero = omega arith
-power (suc n) = omega (arith, power n, pow-suc 256 n)
-
--- the lowest n bytes of a number
-pub pack-low : (n w : ℕ) → pack n (byteOf w) ≡ w % 256 ^ n
-unfolding pack
-pack-low zero w = sym (mod-one w)
-pack-low (suc n) w =
-    ap₂ (λ (x y : ℕ). x * 256 + y) (pack-ext n (λ i. byteOf w (suc i)) (byteOf (w / 256)) (λ i l. byteOf-suc w i) ∙ pack-low n (w / 256)) (byteOf-zero w)
-    ∙ sym (mod-mul w {m = 256 ^ n} {c = 256} (power n) (omega arith)) ∙ ap (λ x. w % x) (sym (pow-suc 256 n))
-
--- from byte q on
-byte-after : (w q i : ℕ) → byteOf w (q + i) ≡ byteOf (w / 256 ^ q) i
-unfolding byteOf
-byte-after w q i = ap (λ x. x % 256) (ap (λ x. w / x) (pow-add 256 q i) ∙ sym (div-div-eq-div-mul w (256 ^ q) (256 ^ i)))
-
--- n bytes and then m bytes
-pub pack-add : (n m : ℕ) (f : ℕ → ℕ) → pack (n + m) f ≡ pack m (λ i. f (n + i)) * 256 ^ n + pack n f
-unfolding pack
-pack-add zero m f = ap (λ k. pack k f) (zero-add m) ∙ pack-ext m f (λ i. f (0 + i)) (λ i l. ap f (sym (zero-add i))) ∙ sym (ap (λ x. x + 0) (mul-one (pack m (λ i. f (0 + i)))) ∙ add-zero (pack m (λ i. f (0 + i))))
-pack-add (suc n) m f =
-    ap (λ k. pack k f) (suc-add n m) ∙ ap (λ x. x * 256 + f 0) (pack-add n m (λ i. f (suc i)))
-    ∙ over (pack m (λ i. f (suc (n + i)))) (256 ^ n) (pack n (λ i. f (suc i))) (f 0)
-    ∙ ap₂ (λ (x y : ℕ). x * y + (pack n (λ i. f (suc i)) * 256 + f 0)) (pack-ext m _ _ (λ i l. ap f (sym (suc-add n i)))) (sym (pow-suc 256 n))
-  where
-    over : (a p b x : ℕ) → (a * p + b) * 256 + x ≡ a * (p * 256) + (b * 256 + x)
-    over a p b x = omega (arith, mul-assoc a p 256)
 
 -- the bytes of x from q on, and then those of y, are eight
 module _ (p q x y : ℕ) (f : ℕ → ℕ) where

@@ -6,7 +6,7 @@ use native.Mathlib.Omega.{arith}
 use lib.Dec.{eqb, leb, ltb}
 use borrow.Author.Tests.{eqb-true, eqb-false, eq-eqb, ne-eqb, le-leb, lt-leb, lt-ltb, le-ltb, ltb-true, ltb-false}
 use Rattle.common.specs.Choice.{pick}
-use Rattle.common.proofs.Choices.{pick-true, pick-false}
+use Rattle.common.proofs.Choices.{pick-true, pick-false, pick-both}
 use Rattle.tree.specs.Calls.{calls, plain, cipher}
 use Rattle.tree.specs.Bounds.{ofRow, argumentsIn, argumentsOf}
 use Rattle.tree.proofs.Table.{call-kind}
@@ -23,14 +23,6 @@ quick k =
 unfoldable pub allBelow : ℕ → (ℕ → Bool) → Bool
 allBelow zero f = true
 allBelow (suc n) f = pick (f n) (allBelow n f) false
-
-false-true : false ≡ true → ⊥
-false-true e = let z : _≡_ {A = ℕ} 0 1 = cc in omega arith
-
-pick-both : (b c : Bool) → pick b c false ≡ true → (b ≡ true) × (c ≡ true)
-unfolding pick
-pick-both true c e = (refl, e)
-pick-both false c e = absurd (false-true e)
 
 pub all-at : (n : ℕ) (f : ℕ → Bool) (i : ℕ) → allBelow n f ≡ true → i < n → f i ≡ true
 unfolding allBelow

@@ -23,6 +23,7 @@ use Rattle.records.specs.Decode.Item.{item, noItem}
 use Rattle.records.proofs.Shapes.{Says, shape-says}
 use Rattle.records.proofs.Back.{no-item, pick-item, then-front}
 use Rattle.records.proofs.Descend.{one-part, two-parts, three-parts, four-parts}
+use Rattle.records.proofs.Sizes.{same-item}
 use Rattle.lists.specs.Entries.{Entry, boundList, rowList, runList, listOf}
 use Rattle.lists.specs.Entries.Listed.{listed}
 use Rattle.lists.specs.Given.{valueOf}
@@ -33,7 +34,6 @@ use Rattle.listing.specs.declared.Found.{Found}
 use Rattle.listing.specs.declared.Found.the-variants as found
 use Rattle.listing.specs.Find.{findIn, stretchOf}
 use Rattle.listing.proofs.Finding.{found-value}
-use Rattle.leaf.specs.declared.Place.the-variants.{Nowhere}
 use Rattle.leaf.specs.Place.{placeIn, placeOf, placed, leafIn}
 use Rattle.leaf.proofs.Ways.{place-image, place-row, place-run, place-bound}
 
@@ -49,20 +49,17 @@ Says-leaf k p (three j a b c) = Unit {0}
 Says-leaf k p (four j a b c d) = Unit {0}
 Says-leaf k p (when c a b) = Unit {0}
 
-same-tree : {t r : Tree} {m n : ℕ} → item t m ≡ item r n → t ≡ r
-same-tree e = cc
-
 digit-says : (top : ℕ) (name : ℕ → Tree) (k : ℕ) (p : List ℕ) (t : Tree) (u : ℕ) → ((n : ℕ) → length p ≡ 1 → getD p 0 0 ≡ n → Says-leaf k p (name n)) → digitIn top name p ≡ item t u → Says-leaf k p t
 unfolding digitIn
 digit-says top name k p t u h e =
     let (a, e1) = pick-item (eqb (length p) 1) (pick (ltb (getD p 0 0) top) (item (name (getD p 0 0)) 5) noItem) e in
     let (b, e2) = pick-item (ltb (getD p 0 0) top) (item (name (getD p 0 0)) 5) e1 in
-    subst (Says-leaf k p) (same-tree e2) (h (getD p 0 0) (eqb-true (length p) 1 a) refl)
+    subst (Says-leaf k p) (same-item e2) (h (getD p 0 0) (eqb-true (length p) 1 a) refl)
 
 module _ (sub : List ℕ → Item) (inner : Bool) (k : ℕ) (p : List ℕ) (t : Tree) (u : ℕ) where
   shape-leaf : (s : Shape) → Says inner k s → byShape sub s k p ≡ item t u → Says-leaf k p t
   unfolding byShape Says Says-leaf constantIn
-  shape-leaf aConstant q e = subst (Says-leaf k p) (same-tree (pick-item (leb (length p) 1024) (item (literal p) (4 + length p)) e .1)) (q, refl)
+  shape-leaf aConstant q e = subst (Says-leaf k p) (same-item (pick-item (leb (length p) 1024) (item (literal p) (4 + length p)) e .1)) (q, refl)
   shape-leaf aBound q e = digit-says 4 bound k p t u (λ n l d. (q .0, l, d)) e
   shape-leaf aRow q e = digit-says 8 row k p t u (λ n l d. (q, l, d)) e
   shape-leaf aRun q e = digit-says 4 run k p t u (λ n l d. (q, l, d)) e

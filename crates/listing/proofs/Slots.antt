@@ -6,17 +6,9 @@ use native.Mathlib.Omega.{arith}
 use lib.Dec.{leb}
 use borrow.Author.Tests.{leb-true, le-leb, lt-leb}
 use Rattle.common.specs.Choice.{pick}
-use Rattle.common.proofs.Choices.{pick-true, pick-false}
+use Rattle.common.proofs.Choices.{pick-true, pick-false, false-true, true-false, pick-both, bool-cases}
 use Rattle.lists.specs.Entries.{between, preparing, running, boundList, rowList, runList}
 use Rattle.listing.specs.Walk.{takenIn, slotOf}
-
-false-true : false ≡ true → ⊥
-false-true e = let z : _≡_ {A = ℕ} 0 1 = cc in omega arith
-
-pick-both : (b c : Bool) → pick b c false ≡ true → (b ≡ true) × (c ≡ true)
-unfolding pick
-pick-both true c e = (refl, e)
-pick-both false c e = absurd (false-true e)
 
 pub in-between : (lo hi k : ℕ) → between lo hi k ≡ true → (lo ≤ k) × (k ≤ hi)
 unfolding between
@@ -44,9 +36,6 @@ record Placed (run : Bool) (k : ℕ) (taken : Bool) (i : ℕ) : Type 0 where
   back : taken ≡ true → kindAt run i ≡ k
   none : taken ≡ false → i ≡ 16
 
-true-false : true ≡ false → ⊥
-true-false e = false-true (sym e)
-
 run-placed : (b c : Bool) (k : ℕ) → between rowList (rowList + 7) k ≡ b → between runList (runList + 3) k ≡ c
     → Placed true k (pick b true c) (pick b (k - rowList) (pick c (k - runList + 8) 16))
 unfolding pick kindAt
@@ -69,10 +58,6 @@ placed : (run : Bool) (k : ℕ) → Placed run k (takenIn run k) (slotOf run k)
 unfolding takenIn slotOf running preparing
 placed true k = run-placed (between rowList (rowList + 7) k) (between runList (runList + 3) k) k refl refl
 placed false k = bound-placed (between boundList (boundList + 3) k) k refl
-
-bool-cases : (P : Bool → Type 0) (b : Bool) → (b ≡ true → P b) → (b ≡ false → P b) → P b
-bool-cases P true f g = f refl
-bool-cases P false f g = g refl
 
 pub slot-taken : (run : Bool) (k : ℕ) → slotOf run k < 16 → takenIn run k ≡ true
 slot-taken run k h = bool-cases (λ b. b ≡ true) (takenIn run k) (λ e. e) (λ e. let n = placed run k .none e in absurd (omega arith))

@@ -7,7 +7,7 @@ use native.Mathlib.Omega.{arith}
 use lib.Dec.{leb}
 use borrow.Author.Tests.{ne-eqb, lt-leb}
 use Rattle.common.specs.Choice.{pick}
-use Rattle.common.proofs.Choices.{pick-false}
+use Rattle.common.proofs.Choices.{pick-false, true-false}
 use Rattle.tree.specs.Bounds.{Bytes}
 use Rattle.tree.specs.Names.Given.{nothing}
 use Rattle.lists.specs.Entries.{Entry, between, preparing, boundList, rowList, runList, listOf}
@@ -15,9 +15,6 @@ use Rattle.lists.specs.Entries.Listed.{listed}
 use Rattle.lists.specs.Given.{valueOf}
 use Rattle.lists.specs.Good.{GoodList}
 use Rattle.lists.proofs.Exactly.{list-exactly}
-
-true-false : true ≡ false → ⊥
-true-false e = let z : _≡_ {A = ℕ} 0 1 = cc in omega arith
 
 none-given : (taken : ℕ → Bool) (es : List Entry) (k : ℕ) → GoodList taken es → taken k ≡ false → valueOf es k ≡ nothing
 unfolding valueOf GoodList

@@ -10,10 +10,10 @@ use lib.Seq.{drop-drop, getD-set-same, getD-set-other}
 use borrow.Author.Tests.{eq-eqb, ne-eqb, eqb-true, eqb-false, le-leb, lt-leb}
 use Rattle.common.specs.Choice.{pick}
 use Rattle.common.specs.Answer.{Value}
-use Rattle.common.proofs.Choices.{pick-true, pick-false}
+use Rattle.common.proofs.Choices.{false-true, true-false, pick-true, pick-false, bool-cases}
 use Rattle.records.specs.Record.{Front, frontOf}
 use Rattle.records.specs.Record.Front.{front, cut}
-use Rattle.lists.specs.Entries.{entry, Listed, among, withFirst, thenEntry, walk, listOf}
+use Rattle.lists.specs.Entries.{Entry, entry, Listed, among, withFirst, thenEntry, walk, listOf}
 use Rattle.lists.specs.Entries.Listed.{listed, badList}
 use Rattle.heads.proofs.Heads.{Stands}
 use Rattle.listing.specs.Walk.{takenIn, isGood, slotOf}
@@ -49,9 +49,15 @@ unfolding withFirst isGood
 with-good e (listed es) = refl
 with-good e badList = refl
 
-bool-cases : (P : Bool → Type 0) (b : Bool) → (b ≡ true → P b) → (b ≡ false → P b) → P b
-bool-cases P true f g = f refl
-bool-cases P false f g = g refl
+pub found-list : (l : Listed) → isGood l ≡ true → (es : List Entry) × (l ≡ listed es)
+unfolding isGood
+found-list (listed es) e = (es, refl)
+found-list badList e = absurd (false-true e)
+
+pub found-bad : (l : Listed) → isGood l ≡ false → l ≡ badList
+unfolding isGood
+found-bad (listed es) e = absurd (true-false e)
+found-bad badList e = refl
 
 marked : (b : Bool) → mark b ≡ 1 → b ≡ true
 unfolding mark

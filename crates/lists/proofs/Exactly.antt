@@ -11,7 +11,7 @@ use lib.Seq.{drop-at}
 use borrow.Author.Tests.{le-leb, leb-true, ne-eqb, eqb-true, eqb-false}
 use Rattle.common.specs.Choice.{pick}
 use Rattle.common.specs.Answer.{Value}
-use Rattle.common.proofs.Choices.{pick-true, pick-false}
+use Rattle.common.proofs.Choices.{pick-true, pick-false, true-false}
 use Rattle.tree.specs.Bounds.{Bytes}
 use Rattle.tree.proofs.Bytes.{bytes-drop}
 use Rattle.records.specs.Record.{recordOf, Front, frontOf}
@@ -24,9 +24,6 @@ use Rattle.lists.specs.Good.{spellList, NotIn, GoodList}
 
 no-list : {es : List Entry} → badList ≡ listed es → ⊥
 no-list e = let z : _≡_ {A = ℕ} 0 1 = cc in omega arith
-
-true-false : true ≡ false → ⊥
-true-false e = let z : _≡_ {A = ℕ} 0 1 = cc in omega arith
 
 pick-listed : (b : Bool) (i : Listed) {es : List Entry} → pick b i badList ≡ listed es → (b ≡ true) × (i ≡ listed es)
 unfolding pick
@@ -80,7 +77,7 @@ apart-more : (met : List ℕ) (x : Entry) (es : List Entry) → NotIn (x .kind) 
 unfolding Apart
 apart-more met x es h a = (h, apart-tail met x es a)
 
-same-list : {a b : List Entry} → listed a ≡ listed b → a ≡ b
+pub same-list : {a b : List Entry} → listed a ≡ listed b → a ≡ b
 same-list e = cc
 
 module _ (taken : ℕ → Bool) where

@@ -13,6 +13,7 @@ use Rattle.common.specs.Choice.{pick}
 use Rattle.common.proofs.Places.{length-tab}
 use Rattle.common.specs.Answer.{Value, Answer}
 use Rattle.common.specs.Answer.Answer.{value, refused}
+use Rattle.common.proofs.Choices.{false-true, pick-both}
 use Rattle.tree.specs.Bounds.{Bytes}
 use Rattle.tree.proofs.Bytes.{bytes-append, bytes-take, bytes-tab}
 use Rattle.meaning.specs.Real.{cat, xorByte, xorBytes, xor, same, eq, head, Cipher, ciphered, realTwo, real}
@@ -90,14 +91,6 @@ module _ (cipher : Cipher) (h : CipherValued cipher) where
         threeValued = λ k x y z hx hy hz. ciphered-valued k (x ∷ y ∷ z ∷ []) (hx, (hy, (hz, tt)));
         fourValued = λ k x y z w hx hy hz hw. ciphered-valued k (x ∷ y ∷ z ∷ w ∷ []) (hx, (hy, (hz, (hw, tt))));
       }
-
-false-true : false ≡ true → ⊥
-false-true e = let z : _≡_ {A = ℕ} 0 1 = cc in omega arith
-
-pick-both : (b c : Bool) → pick b c false ≡ true → (b ≡ true) × (c ≡ true)
-unfolding pick
-pick-both true c e = (refl, e)
-pick-both false c e = absurd (false-true e)
 
 -- `same` tells whether two values are equal
 pub same-equal : (a b : Value) → same a b ≡ true → a ≡ b

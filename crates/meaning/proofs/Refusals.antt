@@ -20,10 +20,10 @@ use Rattle.meaning.specs.Numbers.{Numbered, CallsNumbered, CipherNumbere
 value-numbered : (v : Value) → Numbered (value v)
 value-numbered v n e q = let z : _≡_ {A = ℕ} 0 1 = cc in omega arith
 
-same-number : {m n : ℕ} → refused m ≡ refused n → m ≡ n
+pub same-number : {m n : ℕ} → refused m ≡ refused n → m ≡ n
 same-number e = cc
 
-refused-numbered : (m : ℕ) → (m ≡ 0 → ⊥) → Numbered (refused m)
+pub refused-numbered : (m : ℕ) → (m ≡ 0 → ⊥) → Numbered (refused m)
 refused-numbered m h n e q = h (same-number e ∙ q)
 
 pick-numbered : (b : Bool) (r s : Answer) → Numbered r → Numbered s → Numbered (pick b r s)

@@ -18,18 +18,13 @@ use Rattle.lookup.proofs.Laws.{gather-ext}
 use Rattle.words.specs.Words.{wordAt, blockAt, Walked}
 use Rattle.words.proofs.Walks.{walk-as, walk-then}
 use Rattle.kalyna.specs.Round.{subKey, xorKey, unmix}
-use Rattle.kalyna.proofs.Rows.{back}
 use Rattle.rounds.specs.Rounds.{looked, sealPlaces, openPlaces, keyAt, roundOf}
 use Rattle.rounds.proofs.Laws.{looked-open, places-two}
-use Rattle.blocks.specs.Blocks.{Width, keysOf}
+use Rattle.blocks.specs.Blocks.{keysOf}
 use Rattle.open_laws.specs.Opening.{firstRound, openRound, openRounds, lastRound, openWith, unmixed, swapped, Unmixed}
 use Rattle.open_laws.proofs.Swaps.{swapped-is}
 
 -- ---- a round
-
--- a width that is neither 2 nor 4 is 8
-pub width-8 : (c : ℕ) → Width c → (c ≡ 2 → ⊥) → (c ≡ 4 → ⊥) → c ≡ 8
-width-8 c w n2 n4 = ⊎-elim (λ e. absurd (n2 e)) (λ w. ⊎-elim (λ e. absurd (n4 e)) (λ e. e) w) w
 
 -- with two columns the code that seals opens too: a row comes from the same place both ways
 same-places : (t x : List ℕ) → looked t 2 (sealPlaces 2) x ≡ looked t 2 (openPlaces 2) x

@@ -9,6 +9,7 @@ use lib.Bits.{bitOr, or-add-and, and-le-l, and-le-r}
 use lib.ListN.{getD, length}
 use lib.Seq.{ext-getD}
 use Rattle.common.specs.Choice.{pick}
+use Rattle.common.proofs.Choices.{picked-one, picked-zero}
 use Rattle.field.specs.Xor.{xor}
 use Rattle.field.proofs.XorLaws as X
 use Rattle.meaning.specs.Real.{same}
@@ -28,9 +29,6 @@ pub record Met (a b : List ℕ) (i d : ℕ) : Type 0 where
 pub met-none : (a b : List ℕ) → Met a b 0 0
 met-none a b = record { there = λ e j l. absurd (omega arith); back = λ h. refl }
 
-xor-zero : (a b : ℕ) → xor a b ≡ 0 → a ≡ b
-xor-zero a b e = sym (X.twice a b) ∙ ap (λ x. xor x b) e ∙ X.zero-l b
-
 pub met-more : (a b : List ℕ) (i d x r : ℕ) → Met a b i d → x ≡ xor (getD a i 0) (getD b i 0) → (r ≡ 0 → (d ≡ 0) × (x ≡ 0)) × (d ≡ 0 → x ≡ 0 → r ≡ 0) → Met a b (i + 1) r
 met-more a b i d x r M e h =
     record {
@@ -42,15 +40,7 @@ met-more a b i d x r M e h =
     go j l z (yes s) = M .there (z .0) j s
     go j l z (no s) =
         let q : j ≡ i = omega arith in
-        ap (λ k. getD a k 0) q ∙ xor-zero (getD a i 0) (getD b i 0) (sym e ∙ z .1) ∙ ap (λ k. getD b k 0) (sym q)
-
-pub picked-one : (t : Bool) → t ≡ true → _≡_ {A = ℕ} 1 (pick t 1 0)
-unfolding pick
-picked-one t e = ap (λ x. pick {A = ℕ} x 1 0) (sym e)
-
-pub picked-zero : (t : Bool) → t ≡ false → _≡_ {A = ℕ} 0 (pick t 1 0)
-unfolding pick
-picked-zero t e = ap (λ x. pick {A = ℕ} x 1 0) (sym e)
+        ap (λ k. getD a k 0) q ∙ X.none (getD a i 0) (getD b i 0) (sym e ∙ z .1) ∙ ap (λ k. getD b k 0) (sym q)
 
 not-same : (t : Bool) → (t ≡ true → ⊥) → t ≡ false
 not-same true h = absurd (h refl)

@@ -13,10 +13,10 @@ use Rattle.meaning.specs.Real.{real}
 use Rattle.meaning.specs.Folded.{Folded}
 use Rattle.modes.specs.Cell.{cellOf}
 use Rattle.records.specs.Decode.{imageOf}
-use Rattle.records.specs.Decode.Image.{image}
 use Rattle.lists.specs.Entries.{Entry, preparing, running, listOf}
 use Rattle.lists.specs.Entries.Listed.{listed}
 use Rattle.lists.specs.Given.{bindingOf, runningOf}
+use Rattle.lists.proofs.Exactly.{same-list}
 use Rattle.texts.specs.Reading.{readText}
 use Rattle.recipe.specs.Outcome.{Outcome, outcome, cleared}
 use Rattle.recipe.specs.Prepare.{prepareOf}
@@ -33,9 +33,6 @@ use Rattle.preparing.specs.Ended.{numberOf, countOf, outcomeOf}
 
 same-tree : {t r : Tree} → got t ≡ got r → t ≡ r
 same-tree e = cc
-
-same-entries : {a b : List Entry} → listed a ≡ listed b → a ≡ b
-same-entries e = cc
 
 -- `prepare` answered done
 module _ (text list out work : List ℕ) (hl : Bytes list) (r : Ended) (out′ work′ : List ℕ)
@@ -63,4 +60,4 @@ module _ (text list out work : List ℕ) (hl : Bytes list) (r : Ended) (out′ w
   runs t bound es rows room work₂ told room′ work₂′ et eb es-good h met =
       met ∙ kept .keeps rows es es-good room work₂ h
       ∙ ap₂ (λ (b : List Entry) (t : Tree). outcome (deliver (mean (real cellOf) (bindingOf b) (runningOf es) t) room) 0 (cleared work₂))
-      (same-entries (sym (kept .isList) ∙ eb)) (same-tree (sym (kept .isTree) ∙ et))
+      (same-list (sym (kept .isList) ∙ eb)) (same-tree (sym (kept .isTree) ∙ et))

@@ -7,12 +7,13 @@ use native.Mathlib.Omega.{arith}
 use lib.ListN.{length, take, drop, length-append}
 use lib.Seq.{take-at}
 use borrow.Author.Tests.{le-leb, lt-leb}
-use Rattle.common.proofs.Choices.{pick-true, pick-false}
+use Rattle.common.proofs.Choices.{pick-true, pick-false, true-false}
 use Rattle.tree.specs.Tree.{Tree}
 use Rattle.tree.specs.Bounds.{Bytes, Within}
 use Rattle.tree.specs.Names.{Binding}
 use Rattle.tree.specs.Reading.{Read}
 use Rattle.tree.specs.Reading.Read.{got, wrong}
+use Rattle.tree.proofs.Read.{got-wrong, same-number}
 use Rattle.meaning.specs.Real.{real}
 use Rattle.meaning.specs.Fold.{fold}
 use Rattle.modes.specs.Cell.{cellOf}
@@ -21,7 +22,7 @@ use Rattle.records.specs.Decode.{decode, imageWith}
 use Rattle.records.specs.Decode.Image.{image}
 use Rattle.records.specs.Decode.Item.{item}
 use Rattle.records.proofs.There.{image-encode}
-use Rattle.lists.specs.Entries.{Entry, Listed, preparing, listOf}
+use Rattle.lists.specs.Entries.{Entry, preparing, listOf}
 use Rattle.lists.specs.Entries.Listed.{listed, badList}
 use Rattle.lists.specs.Given.{bindingOf}
 use Rattle.listing.specs.Walk.{takenIn, isGood}
@@ -29,6 +30,7 @@ use Rattle.listing.specs.Find.{findIn, stretchOf}
 use Rattle.listing.specs.declared.Found.{Found}
 use Rattle.listing.specs.declared.Found.the-variants as found
 use Rattle.listing.proofs.Finding.{found-value}
+use Rattle.listing.proofs.Walking.{found-list, found-bad}
 use Rattle.kinds.specs.Tables.{tablesOf}
 use Rattle.image_check.specs.declared.Verdict.{Verdict}
 use Rattle.image_check.specs.declared.Verdict.the-variants.{Good, NoForm}
@@ -45,6 +47,7 @@ use Rattle.text_reader.specs.declared.Parsed.{Parsed}
 use Rattle.text_reader.specs.declared.Parsed.the-variants.{Fine, No}
 use Rattle.text_reader.specs.Reader.{parsedOf, outOf, Answers}
 use Rattle.text_reader.proofs.Decoded.{read-fits}
+use Rattle.text_reader.proofs.Answers.{fine-no}
 use Rattle.unbound.specs.declared.Place.{Place}
 use Rattle.unbound.specs.declared.Place.the-variants.{At, Nowhere}
 use Rattle.unbound.specs.Scan.{placeIs, hasOf}
@@ -59,9 +62,6 @@ use Rattle.fold_size.specs.Folded.{foldedAt}
 use Rattle.preparing.specs.declared.Ended.{Ended}
 use Rattle.preparing.specs.Ended.{Gives, Folding, WasRead}
 
-true-false : true ≡ false → ⊥
-true-false e = let z : _≡_ {A = ℕ} 0 1 = cc in omega arith
-
 -- 21
 pub long-text : (text list : List ℕ) → 4096 < length text → preparedOf cellOf text list ≡ stopped 21 0
 unfolding preparedOf
@@ -72,9 +72,6 @@ unfolding preparedOf
 fair-text text list h = pick-true _ _ _ (le-leb (length text) 4096 h)
 
 -- reading
-fine-no : {n k w : ℕ} → Fine n ≡ No k w → ⊥
-fine-no e = let z : _≡_ {A = ℕ} 0 1 = cc in omega arith
-
 pub was-wrong : (i : Read) (m p : ℕ) → parsedOf i ≡ No m p → i ≡ wrong m p
 unfolding parsedOf
 was-wrong (got t) m p e = absurd (fine-no e)
@@ -84,12 +81,6 @@ pub was-got : (i : Read) (n : ℕ) → parsedOf i ≡ Fine n → (t : Tree) × (
 unfolding parsedOf
 was-got (got t) n e = let a : n ≡ length (encode t) = cc in (t, refl, a)
 was-got (wrong k w) n e = absurd (fine-no (sym e))
-
-got-wrong : {t : Tree} {n p : ℕ} → got t ≡ wrong n p → ⊥
-got-wrong e = let z : _≡_ {A = ℕ} 0 1 = cc in omega arith
-
-same-number : {n p m q : ℕ} → wrong n p ≡ wrong m q → n ≡ m
-same-number e = cc
 
 small-number : (n : ℕ) → ReadingNumber n → n ≤ 23
 small-number n syntax = omega arith
@@ -123,16 +114,6 @@ was-read text r n room before after A e h g =
     }
 
 -- 27
-no-list : (l : Listed) → isGood l ≡ false → l ≡ badList
-unfolding isGood
-no-list (listed es) e = absurd (true-false e)
-no-list badList e = refl
-
-a-list : (l : Listed) → isGood l ≡ true → (es : List Entry) × (l ≡ listed es)
-unfolding isGood
-a-list (listed es) e = (es, refl)
-a-list badList e = absurd (true-false (sym e))
-
 at-place : {p q : ℕ} → At p ≡ At q → p ≡ q
 at-place e = cc
 
@@ -162,7 +143,7 @@ module _ (text records list : List ℕ) (room : ℕ) (R : WasRead text records r
 
   pub bad-list : isGood (listOf (takenIn false) list) ≡ false → afterRead cellOf text list (readText text) ≡ stopped 27 0
   unfolding takenIn
-  bad-list e = unlisted (no-list (listOf preparing list) e)
+  bad-list e = unlisted (found-bad (listOf preparing list) e)
 
   within : Within (R .tree)
   within = read-back text (R .tree) (R .isTree) .1
@@ -173,7 +154,7 @@ module _ (text records list : List ℕ) (room : ℕ) (R : WasRead text records r
   module _ (g : isGood (listOf (takenIn false) list) ≡ true) where
     L : (es : List Entry) × (listOf preparing list ≡ listed es)
     unfolding takenIn
-    L = a-list (listOf preparing list) g
+    L = found-list (listOf preparing list) g
 
     abbrev K : Binding
     K = bindingOf (L .0)

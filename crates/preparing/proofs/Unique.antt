@@ -2,7 +2,6 @@
 use mathlib.Core.Path.{_≡_, ap, ap₂, sym, _∙_}
 use mathlib.Core.List.{List, []}
 use Prim.Native.Nat.{ℕ}
-use native.Mathlib.Omega.{arith}
 use lib.ListN.{take}
 use Rattle.common.specs.Choice.{pick}
 use Rattle.tree.specs.Tree.{Tree}
@@ -10,7 +9,8 @@ use Rattle.tree.specs.Bounds.{Bytes}
 use Rattle.modes.specs.Cell.{cellOf}
 use Rattle.records.specs.Record.{frontOf}
 use Rattle.records.specs.Decode.{decode, thenFront, wholeOf, imageWith, imageOf}
-use Rattle.records.specs.Decode.Image.{image, noImage}
+use Rattle.records.specs.Decode.Image.{image}
+use Rattle.records.proofs.Back.{no-image}
 use Rattle.recipe.specs.Outcome.{Outcome}
 use Rattle.recipe.specs.Prepare.{prepareOf}
 use Rattle.recipe.specs.Keeps.{Keeps}
@@ -18,9 +18,6 @@ use Rattle.demands.proofs.Real.{demand-3}
 use Rattle.preparing.specs.declared.Ended.{Ended}
 use Rattle.preparing.specs.declared.Ended.the-variants.{Done, Refused}
 use Rattle.preparing.specs.Ended.{numberOf, countOf, placeOf, outcomeOf}
-
-no-image : {t : Tree} → noImage ≡ image t → ⊥
-no-image e = let z : _≡_ {A = ℕ} 0 1 = cc in omega arith
 
 -- no image has no byte
 none-no-image : (t : Tree) → imageOf [] ≡ image t → ⊥

@@ -16,6 +16,7 @@ use Rattle.tree.specs.Bounds.{Bytes}
 use Rattle.tree.specs.Names.{Binding, AllBound}
 use Rattle.tree.specs.Reading.{Read}
 use Rattle.tree.specs.Reading.Read.{got, wrong}
+use Rattle.tree.proofs.Read.{got-wrong, same-number}
 use Rattle.meaning.specs.Mean.{mean}
 use Rattle.meaning.specs.Real.{Cipher, real}
 use Rattle.meaning.specs.Fold.{fold}
@@ -69,12 +70,6 @@ reading-numbers n syntax e = omega arith
 reading-numbers n deep e = omega arith
 reading-numbers n many e = omega arith
 reading-numbers n long e = omega arith
-
-got-wrong : {t : Tree} {n p : ℕ} → got t ≡ wrong n p → ⊥
-got-wrong e = let z : _≡_ {A = ℕ} 0 1 = cc in omega arith
-
-same-number : {n p m q : ℕ} → wrong n p ≡ wrong m q → n ≡ m
-same-number e = cc
 
 reading-numbered : (text : List ℕ) (n p : ℕ) → TextNumbers.Outcome text → readText text ≡ wrong n p → n ≡ 0 → ⊥
 reading-numbered text n p (reads t e) f q = got-wrong (sym e ∙ f)

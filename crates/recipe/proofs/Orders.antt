@@ -7,6 +7,7 @@ use borrow.Author.Tests.{le-leb, lt-leb, le-ltb}
 use Rattle.common.specs.Answer.{Value, Answer, Delivered, refusal, deliver}
 use Rattle.common.specs.Answer.Answer.{value, refused}
 use Rattle.common.proofs.Choices.{pick-true, pick-false}
+use Rattle.common.proofs.Delivering.{deliver-short}
 use Rattle.tree.specs.Tree.{Tree}
 use Rattle.tree.specs.Names.{unbound}
 use Rattle.tree.specs.Reading.Read.{got, wrong}
@@ -31,10 +32,6 @@ use Rattle.recipe.specs.Run.{meantWith, afterImage, ranOf, runOf}
 in-room : (out work : List ℕ) (d : Delivered) (p : ℕ) → 65536 ≤ length work → inRoom out work d p ≡ outcome d p (cleared work)
 unfolding inRoom
 in-room out work d p h = pick-false _ _ _ (le-ltb _ _ h)
-
-deliver-room : (v : Value) (out : List ℕ) → length out < length v → deliver (value v) out ≡ refusal 9 out
-unfolding deliver
-deliver-room v out h = pick-false _ _ _ (lt-leb _ _ h)
 
 deliver-done : (v : Value) (out : List ℕ) → length v ≤ length out → deliver (value v) out ≡ record { number = 0; count = length v; out = v ++ drop (length v) out }
 unfolding deliver
@@ -99,7 +96,7 @@ module _ (cipher : Cipher) (text list : List ℕ) where
     pub prepare-9 : (b : List ℕ) → preparedOf cipher text list ≡ made b → length out < length b
         → prepareOf cipher text list out work ≡ record { number = 9; count = 0; place = 0; out = out; work = cleared work }
     unfolding answerOf placeOf refusal outcome
-    prepare-9 b e h = delivers (made b) e ∙ ap (λ d. outcome d 0 (cleared work)) (deliver-room b out h)
+    prepare-9 b e h = delivers (made b) e ∙ ap (λ d. outcome d 0 (cleared work)) (deliver-short b out h)
 
     pub prepare-done : (b : List ℕ) → preparedOf cipher text list ≡ made b → length b ≤ length out
         → prepareOf cipher text list out work ≡ record { number = 0; count = length b; place = 0; out = b ++ drop (length b) out; work = cleared work }
@@ -132,7 +129,7 @@ module _ (cipher : Cipher) (bytes list : List ℕ) where
     pub run-9 : (v : Value) → ranOf cipher bytes list ≡ value v → length out < length v
         → runOf cipher bytes list out work ≡ record { number = 9; count = 0; place = 0; out = out; work = cleared work }
     unfolding refusal outcome
-    run-9 v e h = delivers-run (value v) e ∙ ap (λ d. outcome d 0 (cleared work)) (deliver-room v out h)
+    run-9 v e h = delivers-run (value v) e ∙ ap (λ d. outcome d 0 (cleared work)) (deliver-short v out h)
 
     pub run-done : (v : Value) → ranOf cipher bytes list ≡ value v → length v ≤ length out
         → runOf cipher bytes list out work ≡ record { number = 0; count = length v; place = 0; out = v ++ drop (length v) out; work = cleared work }

@@ -10,31 +10,13 @@ use Rattle.tree.specs.Tree.Tree.{literal, bound, row, run, one, two, three, fou
 use Rattle.tree.specs.Names.{Given, Binding, AllBound}
 use Rattle.tree.specs.Names.Given.{given, nothing}
 use Rattle.texts.specs.Spelling.{spell, width}
-use Rattle.texts.specs.Unbound.{Place, later, first, unboundAt, unboundIn}
+use Rattle.texts.specs.Unbound.{first, unboundAt, unboundIn}
 use Rattle.texts.specs.Unbound.Place.{at, nowhere}
-use Rattle.texts.proofs.Unbound.{unbound-scan}
+use Rattle.texts.proofs.Unbound.{unbound-scan, later-nowhere, none-later, first-none, none-first}
 use Rattle.recipe.specs.Prepare.{isGiven, has}
 
 some-place : {p : ℕ} → at p ≡ nowhere → ⊥
 some-place e = let z : _≡_ {A = ℕ} 0 1 = cc in omega arith
-
-later-none : (w : ℕ) (x : Place) → later w x ≡ nowhere → x ≡ nowhere
-unfolding later
-later-none w (at p) e = absurd (some-place e)
-later-none w nowhere e = refl
-
-later-nowhere : (w : ℕ) (x : Place) → x ≡ nowhere → later w x ≡ nowhere
-unfolding later
-later-nowhere w x e = ap (later w) e
-
-first-none : (x : Place) (w : ℕ) (y : Place) → first x w y ≡ nowhere → (x ≡ nowhere) × (y ≡ nowhere)
-unfolding first
-first-none (at p) w y e = absurd (some-place e)
-first-none nowhere w y e = (refl, later-none w y e)
-
-first-nowhere : (x : Place) (w : ℕ) (y : Place) → x ≡ nowhere → y ≡ nowhere → first x w y ≡ nowhere
-unfolding first
-first-nowhere x w y ex ey = ap (λ x. first x w y) ex ∙ later-nowhere w y ey
 
 is-given : (g : Given) → pick (isGiven g) nowhere (at 0) ≡ nowhere → (v : Value) × (g ≡ given v)
 unfolding isGiven pick
@@ -48,23 +30,23 @@ module _ (K : Binding) where
   all-bound (bound n) e = is-given (K n) e
   all-bound (row n) e = tt
   all-bound (run n) e = tt
-  all-bound (one k a) e = all-bound a (later-none _ _ e)
+  all-bound (one k a) e = all-bound a (later-nowhere _ _ e)
   all-bound (two k a b) e =
-      let (x, y) = first-none (unboundAt (has K) a) (width a + 1) (unboundAt (has K) b) (later-none _ _ e) in
+      let (x, y) = first-none (unboundAt (has K) a) (width a + 1) (unboundAt (has K) b) (later-nowhere _ _ e) in
       (all-bound a x, all-bound b y)
   all-bound (three k a b c) e =
-      let (x, r) = first-none (unboundAt (has K) a) (width a + 1) (first (unboundAt (has K) b) (width b + 1) (unboundAt (has K) c)) (later-none _ _ e) in
+      let (x, r) = first-none (unboundAt (has K) a) (width a + 1) (first (unboundAt (has K) b) (width b + 1) (unboundAt (has K) c)) (later-nowhere _ _ e) in
       let (y, z) = first-none (unboundAt (has K) b) (width b + 1) (unboundAt (has K) c) r in
       (all-bound a x, all-bound b y, all-bound c z)
   all-bound (four k a b c d) e =
       let (x, r) =
-      first-none (unboundAt (has K) a) (width a + 1) (first (unboundAt (has K) b) (width b + 1) (first (unboundAt (has K) c) (width c + 1) (unboundAt (has K) d))) (later-none _ _ e)
+      first-none (unboundAt (has K) a) (width a + 1) (first (unboundAt (has K) b) (width b + 1) (first (unboundAt (has K) c) (width c + 1) (unboundAt (has K) d))) (later-nowhere _ _ e)
       in
       let (y, s) = first-none (unboundAt (has K) b) (width b + 1) (first (unboundAt (has K) c) (width c + 1) (unboundAt (has K) d)) r in
       let (z, w) = first-none (unboundAt (has K) c) (width c + 1) (unboundAt (has K) d) s in
       (all-bound a x, all-bound b y, all-bound c z, all-bound d w)
   all-bound (when c a b) e =
-      let (x, r) = first-none (unboundAt (has K) c) (width c + 1) (first (unboundAt (has K) a) (width a + 1) (unboundAt (has K) b)) (later-none _ _ e) in
+      let (x, r) = first-none (unboundAt (has K) c) (width c + 1) (first (unboundAt (has K) a) (width a + 1) (unboundAt (has K) b)) (later-nowhere _ _ e) in
       let (y, z) = first-none (unboundAt (has K) a) (width a + 1) (unboundAt (has K) b) r in
       (all-bound c x, all-bound a y, all-bound b z)
 
@@ -74,15 +56,15 @@ module _ (K : Binding) where
   none-unbound (bound n) h = ap (λ g. pick (isGiven g) nowhere (at 0)) (h .1)
   none-unbound (row n) h = refl
   none-unbound (run n) h = refl
-  none-unbound (one k a) h = later-nowhere _ _ (none-unbound a h)
-  none-unbound (two k a b) h = later-nowhere _ _ (first-nowhere _ _ _ (none-unbound a (h .0)) (none-unbound b (h .1)))
+  none-unbound (one k a) h = none-later _ _ (none-unbound a h)
+  none-unbound (two k a b) h = none-later _ _ (none-first _ _ _ (none-unbound a (h .0)) (none-unbound b (h .1)))
   none-unbound (three k a b c) h =
-      later-nowhere _ _ (first-nowhere _ _ _ (none-unbound a (h .0)) (first-nowhere _ _ _ (none-unbound b (h .1)) (none-unbound c (h .2))))
+      none-later _ _ (none-first _ _ _ (none-unbound a (h .0)) (none-first _ _ _ (none-unbound b (h .1)) (none-unbound c (h .2))))
   none-unbound (four k a b c d) h =
-      later-nowhere _ _
-      (first-nowhere _ _ _ (none-unbound a (h .0)) (first-nowhere _ _ _ (none-unbound b (h .1)) (first-nowhere _ _ _ (none-unbound c (h .2)) (none-unbound d (h .3)))))
+      none-later _ _
+      (none-first _ _ _ (none-unbound a (h .0)) (none-first _ _ _ (none-unbound b (h .1)) (none-first _ _ _ (none-unbound c (h .2)) (none-unbound d (h .3)))))
   none-unbound (when c a b) h =
-      later-nowhere _ _ (first-nowhere _ _ _ (none-unbound c (h .0)) (first-nowhere _ _ _ (none-unbound a (h .1)) (none-unbound b (h .2))))
+      none-later _ _ (none-first _ _ _ (none-unbound c (h .0)) (none-first _ _ _ (none-unbound a (h .1)) (none-unbound b (h .2))))
 
   -- so 25 is given exactly if some `#` of the text has no value
   pub scan-exactly : (t : Tree) → (unboundIn (has K) (spell t) ≡ nowhere) ↔ AllBound K t

@@ -1,5 +1,5 @@
 -- Running answers 0 exactly where the meaning is a value and the rooms are large enough.
-use mathlib.Core.Path.{_≡_, refl, _∙_}
+use mathlib.Core.Path.{_≡_, refl}
 use mathlib.Core.Bool.{Bool, true, false}
 use mathlib.Core.List.{List, _++_}
 use Prim.Native.Nat.{ℕ, _≤_}
@@ -14,7 +14,7 @@ use Rattle.tree.specs.Tree.{Tree}
 use Rattle.tree.specs.Names.{unbound}
 use Rattle.meaning.specs.Real.{Cipher, real}
 use Rattle.meaning.specs.Numbers.{Numbered, CipherNumbered}
-use Rattle.meaning.proofs.Refusals.{mean-numbered, real-numbered}
+use Rattle.meaning.proofs.Refusals.{mean-numbered, real-numbered, refused-numbered}
 use Rattle.records.specs.Decode.{Image, imageOf}
 use Rattle.records.specs.Decode.Image.{image, noImage}
 use Rattle.lists.specs.Entries.{Listed, running, listOf}
@@ -22,12 +22,6 @@ use Rattle.lists.specs.Entries.Listed.{listed, badList}
 use Rattle.lists.specs.Given.{runningOf}
 use Rattle.recipe.specs.Outcome.{cleared, outcome, inRoom}
 use Rattle.recipe.specs.Run.{meantWith, afterImage, ranOf, runOf}
-
-same-number : {m n : ℕ} → refused m ≡ refused n → m ≡ n
-same-number e = cc
-
-refused-numbered : (m : ℕ) → (m ≡ 0 → ⊥) → Numbered (refused m)
-refused-numbered m h n e q = h (same-number e ∙ q)
 
 module _ (cipher : Cipher) (h : CipherNumbered cipher) where
   meant-numbered : (t : Tree) (l : Listed) → Numbered (meantWith cipher t l)

@@ -31,7 +31,7 @@ no-item e = let z : _≡_ {A = ℕ} 0 1 = cc in omega arith
 no-front : {k : ℕ} {p : List ℕ} → cut ≡ front k p → ⊥
 no-front e = let z : _≡_ {A = ℕ} 0 1 = cc in omega arith
 
-no-image : {t : Tree} → noImage ≡ image t → ⊥
+pub no-image : {t : Tree} → noImage ≡ image t → ⊥
 no-image e = let z : _≡_ {A = ℕ} 0 1 = cc in omega arith
 
 pub pick-item : (b : Bool) (i : Item) {t : Tree} {u : ℕ} → pick b i noItem ≡ item t u → (b ≡ true) × (i ≡ item t u)

@@ -1,10 +1,11 @@
 -- How long encodings are, and that no two trees have the same one.
 use mathlib.Core.Path.{_≡_, ap, sym, _∙_}
-use mathlib.Core.Bool.{Bool, true, false}
+use mathlib.Core.Bool.{Bool, true}
 use mathlib.Core.List.{List, [], _∷_, _++_}
 use Prim.Native.Nat.{ℕ, _+_, _*_, _≤_, max}
 use native.Mathlib.Omega.{arith}
 use lib.ListN.{length, drop, length-append}
+use Rattle.common.proofs.Choices.{true-false}
 use Rattle.tree.specs.Tree.{Tree}
 use Rattle.tree.specs.Tree.Tree.{literal, bound, row, run, one, two, three, four, when}
 use Rattle.tree.specs.Bounds.{depth, nodes, whenKind, Bytes, Proper, Small}
@@ -71,11 +72,8 @@ decode-counted inner d s t u hs e =
     let c : length s ≡ length (encode t) + length (drop u s) = ap length (S .same) ∙ length-append (encode t) (drop u s) in
     record { many = omega arith; most = omega arith }
 
-same-item : {t r : Tree} {m n : ℕ} → item t m ≡ item r n → t ≡ r
+pub same-item : {t r : Tree} {m n : ℕ} → item t m ≡ item r n → t ≡ r
 same-item e = cc
-
-true-false : true ≡ false → ⊥
-true-false e = let z : _≡_ {A = ℕ} 0 1 = cc in omega arith
 
 -- no two trees have the same encoding
 pub encode-injective : (t r : Tree) → Proper t → Small t → Proper r → Small r → encode t ≡ encode r → t ≡ r

@@ -14,13 +14,14 @@ use Rattle.meaning.specs.Real.{real}
 use Rattle.records.specs.Decode.{Image, imageWith, imageOf}
 use Rattle.records.specs.Decode.Image.{image, noImage}
 use Rattle.records.proofs.Back.{image-back}
-use Rattle.lists.specs.Entries.{Entry, Listed, running, listOf}
-use Rattle.lists.specs.Entries.Listed.{listed, badList}
+use Rattle.lists.specs.Entries.{Entry, running, listOf}
+use Rattle.lists.specs.Entries.Listed.{listed}
 use Rattle.lists.specs.Given.{bindingOf, runningOf}
 use Rattle.recipe.specs.Run.{ranOf}
 use Rattle.recipe.proofs.Orders.{run-28, run-27, run-means}
 use Rattle.kinds.specs.Tables.{tablesOf}
 use Rattle.listing.specs.Walk.{takenIn, isGood}
+use Rattle.listing.proofs.Walking.{found-list, found-bad}
 use Rattle.image_check.specs.declared.Verdict.{Verdict}
 use Rattle.image_check.specs.declared.Verdict.the-variants.{Good, NoForm}
 use Rattle.image_check.specs.Check.{verdictOf}
@@ -36,9 +37,6 @@ no-form e = let z : _≡_ {A = ℕ} 0 1 = cc in omega arith
 same-good : {n m : ℕ} → Good n ≡ Good m → n ≡ m
 same-good e = cc
 
-false-true : false ≡ true → ⊥
-false-true e = let z : _≡_ {A = ℕ} 0 1 = cc in omega arith
-
 -- the tree that a verdict speaks of
 found-tree : (i : Image) (n : ℕ) → verdictOf i ≡ Good n → (t : Tree) × (i ≡ image t) × (n ≡ tablesOf t)
 unfolding verdictOf
@@ -49,16 +47,6 @@ found-none : (i : Image) → verdictOf i ≡ NoForm → i ≡ noImage
 unfolding verdictOf
 found-none (image t) e = absurd (no-form (sym e))
 found-none noImage e = refl
-
-found-list : (l : Listed) → isGood l ≡ true → (es : List Entry) × (l ≡ listed es)
-unfolding isGood
-found-list (listed es) e = (es, refl)
-found-list badList e = absurd (false-true e)
-
-found-bad : (l : Listed) → isGood l ≡ false → l ≡ badList
-unfolding isGood
-found-bad (listed es) e = absurd (false-true (sym e))
-found-bad badList e = refl
 
 -- a tree with no `#` means the same whatever `#` is given
 module _ (K L : Binding) (E : Running) where

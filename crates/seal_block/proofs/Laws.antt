@@ -1,6 +1,5 @@
 -- The walks, one after another, are the block transformation.
 use mathlib.Core.Path.{_≡_, refl, sym, ap, _∙_, subst}
-use mathlib.Core.Logic.{⊎-elim}
 use mathlib.Core.List.{List}
 use Prim.Native.Nat.{ℕ, _+_, _-_, _*_, _<_, _≤_}
 use native.Mathlib.Nat.{mul-le-mul-left, mul-suc, mul-zero}
@@ -19,7 +18,7 @@ use Rattle.kalyna.specs.Block.{moves, rounds, seal}
 use Rattle.kalyna.proofs.Undo.{ssm-state}
 use Rattle.rounds.specs.Rounds.{sealPlaces, keyAt, roundOf}
 use Rattle.rounds.proofs.Laws.{looked-seal}
-use Rattle.blocks.specs.Blocks.{Width, keysOf}
+use Rattle.blocks.specs.Blocks.{keysOf}
 
 -- a walk by lookups is a round of the standard
 pub round-is : (c n : ℕ) (t k s s′ : List ℕ) → t ≡ sealTable → Walked c n (roundOf t c (sealPlaces c) k) s s′ → Walked c n (λ x. xorKey c k (ssm (moves c) c x)) s s′
@@ -32,10 +31,6 @@ pub round-at : (c d n : ℕ) (t ks s s′ : List ℕ) (at : ℕ) → c ≡ d →
     → Walked c n (λ x. xorKey c (keyAt c ks at) (ssm (moves c) c x)) s s′
 round-at c d n t ks s s′ at e et w =
     subst (λ c. Walked c n (λ x. xorKey c (keyAt c ks at) (ssm (moves c) c x)) s s′) (sym e) (round-is d n t (keyAt d ks at) s s′ et w)
-
--- neither 2 nor 4
-pub eight-is : (c : ℕ) → Width c → (c ≡ 2 → ⊥) → (c ≡ 4 → ⊥) → c ≡ 8
-eight-is c w a b = ⊎-elim (λ e. absurd (a e)) (⊎-elim (λ e. absurd (b e)) (λ e. e)) w
 
 abbrev pub zeros : List ℕ
 zeros = replicate 8 0

@@ -1,8 +1,8 @@
 -- The number of a block in base 256 is the number of its columns in base 2^64, so a carry over the columns counts the block.
-use mathlib.Core.Path.{_≡_, refl, sym, ap, ap₂, _∙_, subst}
+use mathlib.Core.Path.{_≡_, refl, sym, ap, ap₂, _∙_}
 use mathlib.Core.List.{List}
-use Prim.Native.Nat.{ℕ, zero, suc, _+_, _-_, _*_, _/_, _%_, _^_, _<_}
-use native.Mathlib.Nat.{mod-lt, div-one, pow-suc, div-div-eq-div-mul, zero-add, mul-zero, mul-add-mod-self-right, not-suc-le-zero, mul-assoc}
+use Prim.Native.Nat.{ℕ, zero, suc, _+_, _*_, _/_, _%_, _^_, _<_}
+use native.Mathlib.Nat.{mod-lt, div-one, pow-suc, div-div-eq-div-mul, mul-zero, mul-add-mod-self-right, not-suc-le-zero}
 use native.Mathlib.Numerals.{add-one}
 use native.Mathlib.Omega.{arith}
 use lib.Arith.{mod-mul, digits-div}
@@ -11,7 +11,7 @@ use lib.ListN.{getD}
 use Rattle.common.specs.Places.{tab}
 use Rattle.common.proofs.Places.{getD-tab, tab-ext}
 use Rattle.field.specs.Column.{byteOf, pack}
-use Rattle.field.proofs.PackLaws.{pack-ext, pack-byte, byteOf-zero, byteOf-suc}
+use Rattle.field.proofs.PackLaws.{pack-ext, pack-byte, byteOf-zero, byteOf-suc, power, pack-low, byte-after, pack-add}
 use Rattle.words.specs.Words.{wordAt, blockAt}
 use Rattle.kalyna.specs.State.{State, columnsOf, bytesOf}
 use Rattle.modes.specs.Blocks.{numberOf, blockOf}
@@ -31,40 +31,6 @@ join-ext (suc c) f g h = ap₂ (λ (x y : ℕ). x * 2 ^ 64 + y) (join-ext c (λ 
 
 -- ---- bytes
 
-pos : (n : ℕ) → 0 < 256 ^ n
-pos zero = omega arith
-pos (suc n) = subst (λ x. 0 < x) (sym (pow-suc 256 n)) (omega (arith, pos n))
-
--- n + m bytes
-pack-add : (n m : ℕ) (f : ℕ → ℕ) → pack (n + m) f ≡ pack m (λ i. f (n + i)) * 256 ^ n + pack n f
-unfolding pack
-pack-add zero m f = ap (λ k. pack k f) (zero-add m) ∙ pack-ext m f (λ i. f (0 + i)) (λ i l. ap f (sym (zero-add i))) ∙ one (pack m (λ i. f (0 + i)))
-  where
-    one : (x : ℕ) → x ≡ x * 256 ^ 0 + 0
-    one x = omega arith
-pack-add (suc n) m f =
-    ap (λ k. pack k f) (sum n m) ∙ ap (λ x. x * 256 + f 0) (pack-add n m (λ i. f (suc i)) ∙ ap (λ x. x * 256 ^ n + pack n (λ i. f (suc i))) (pack-ext m _ _ (λ i l. ap f (sym (sum n i)))))
-    ∙ spread (pack m (λ i. f (suc n + i))) (pack n (λ i. f (suc i))) (256 ^ n) (f 0) ∙ ap (λ x. pack m (λ i. f (suc n + i)) * x + (pack n (λ i. f (suc i)) * 256 + f 0)) (sym (pow-suc 256 n))
-  where
-    sum : (n m : ℕ) → suc n + m ≡ suc (n + m)
-    sum n m = omega arith
-
-    spread : (a b p d : ℕ) → (a * p + b) * 256 + d ≡ a * (p * 256) + (b * 256 + d)
-    spread a b p d = omega (arith, mul-assoc a p 256)
-
--- the lowest n bytes of a number
-pack-mod : (n w : ℕ) → pack n (byteOf w) ≡ w % 256 ^ n
-unfolding pack
-pack-mod zero w = omega arith
-pack-mod (suc n) w =
-    ap₂ (λ (x y : ℕ). x * 256 + y) (pack-ext n (λ i. byteOf w (suc i)) (byteOf (w / 256)) (λ i l. byteOf-suc w i) ∙ pack-mod n (w / 256)) (byteOf-zero w)
-    ∙ sym (ap (λ p. w % p) (pow-suc 256 n) ∙ mod-mul w {m = 256 ^ n} {c = 256} (pos n) (omega arith))
-
--- a byte from place k on
-byte-add : (w k i : ℕ) → byteOf w (k + i) ≡ byteOf (w / 256 ^ k) i
-unfolding byteOf
-byte-add w k i = ap (λ p. w / p % 256) (pow-add 256 k i) ∙ ap (λ x. x % 256) (sym (div-div-eq-div-mul w (256 ^ k) (256 ^ i)))
-
 -- bytes below n do not see what is beyond
 byte-mod : (n w i : ℕ) → i < n → byteOf (w % 256 ^ n) i ≡ byteOf w i
 byte-mod zero w i l = absurd (not-suc-le-zero l)
@@ -72,7 +38,7 @@ byte-mod (suc n) w zero l =
     byteOf-zero (w % 256 ^ suc n) ∙ ap (λ x. x % 256) (split n w) ∙ mul-add-mod-self-right (w / 256 % 256 ^ n) 256 (w % 256) ∙ twice w ∙ sym (byteOf-zero w)
   where
     split : (n w : ℕ) → w % 256 ^ suc n ≡ w / 256 % 256 ^ n * 256 + w % 256
-    split n w = ap (λ p. w % p) (pow-suc 256 n) ∙ mod-mul w {m = 256 ^ n} {c = 256} (pos n) (omega arith)
+    split n w = ap (λ p. w % p) (pow-suc 256 n) ∙ mod-mul w {m = 256 ^ n} {c = 256} (power n) (omega arith)
 
     twice : (w : ℕ) → w % 256 % 256 ≡ w % 256
     twice w = omega arith
@@ -81,7 +47,7 @@ byte-mod (suc n) w (suc i) l =
     ∙ byte-mod n (w / 256) i (omega arith) ∙ sym (byteOf-suc w i)
   where
     split : (n w : ℕ) → w % 256 ^ suc n ≡ w / 256 % 256 ^ n * 256 + w % 256
-    split n w = ap (λ p. w % p) (pow-suc 256 n) ∙ mod-mul w {m = 256 ^ n} {c = 256} (pos n) (omega arith)
+    split n w = ap (λ p. w % p) (pow-suc 256 n) ∙ mod-mul w {m = 256 ^ n} {c = 256} (power n) (omega arith)
 
 -- ---- columns
 
@@ -113,7 +79,7 @@ pack-join (suc c) f h =
 
 -- column j of a number
 column-of : (x j : ℕ) → pack 8 (λ i. byteOf x (8 * j + i)) ≡ x / 256 ^ (8 * j) % 2 ^ 64
-column-of x j = pack-ext 8 _ (byteOf (x / 256 ^ (8 * j))) (λ i l. byte-add x (8 * j) i) ∙ pack-mod 8 (x / 256 ^ (8 * j))
+column-of x j = pack-ext 8 _ (byteOf (x / 256 ^ (8 * j))) (λ i l. byte-after x (8 * j) i) ∙ pack-low 8 (x / 256 ^ (8 * j))
 
 -- the first carry, then the others
 carry-front : (f : ℕ → ℕ) (x j : ℕ) → carry f x (suc j) ≡ carry (λ j. f (suc j)) ((f 0 + x) / 2 ^ 64) j

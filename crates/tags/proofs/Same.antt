@@ -28,9 +28,6 @@ pub differ-none : (a b : List ℕ) → 0 ≡ differ a b 0
 unfolding differ
 differ-none a b = refl
 
-xor-zero : (a b : ℕ) → xor a b ≡ 0 → a ≡ b
-xor-zero a b e = sym (X.twice a b) ∙ ap (λ x. xor x b) e ∙ X.zero-l b
-
 -- nothing differs: equal bytes
 equal : (a b : List ℕ) (n : ℕ) → differ a b n ≡ 0 → (i : ℕ) → i < n → getD a i 0 ≡ getD b i 0
 unfolding differ
@@ -42,7 +39,7 @@ equal a b (suc n) e i l = go (decLt i n) (equal a b n (omega (arith, e)) i)
     go (no d) f = here (omega arith)
       where
         here : i ≡ n → getD a i 0 ≡ getD b i 0
-        here q = ap (λ k. getD a k 0) q ∙ xor-zero (getD a n 0) (getD b n 0) (omega (arith, e)) ∙ ap (λ k. getD b k 0) (sym q)
+        here q = ap (λ k. getD a k 0) q ∙ X.none (getD a n 0) (getD b n 0) (omega (arith, e)) ∙ ap (λ k. getD b k 0) (sym q)
 
 -- equal bytes: nothing differs
 alike : (a b : List ℕ) (n : ℕ) → ((i : ℕ) → i < n → getD a i 0 ≡ getD b i 0) → differ a b n ≡ 0
@@ -67,15 +64,6 @@ module _ (a b : List ℕ) (n : ℕ) (long : length a ≡ n) (room : n ≤ length
       go : (t : Bool) → same a (take n b) ≡ t → t ≡ false
       go false e = refl
       go true e = absurd (h (alike a b n (λ i l. ap (λ x. getD x i 0) (same-true a (take n b) e) ∙ getD-take n b i 0 l)))
-
--- the answer as a byte
-pub picked-one : (t : Bool) → t ≡ true → _≡_ {A = ℕ} 1 (pick t 1 0)
-unfolding pick
-picked-one t e = ap (λ x. pick {A = ℕ} x 1 0) (sym e)
-
-pub picked-zero : (t : Bool) → t ≡ false → _≡_ {A = ℕ} 0 (pick t 1 0)
-unfolding pick
-picked-zero t e = ap (λ x. pick {A = ℕ} x 1 0) (sym e)
 
 listed : (t : Bool) → pick {A = ℕ} t 1 0 ∷ [] ≡ pick t (1 ∷ []) (0 ∷ [])
 unfolding pick

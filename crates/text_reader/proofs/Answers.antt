@@ -47,7 +47,7 @@ module _ (s : List ℕ) (b a : List ℕ) where
   unfolding readText endAt pick
   whole-fine q m e G h = fine (readText s) (G .tree) e (ap (endAt s) (G .is) ∙ rw (le-leb (length s) q h)) (G .end) (G .wrote)
 
-fine-no : {n k w : ℕ} → Fine n ≡ No k w → ⊥
+pub fine-no : {n k w : ℕ} → Fine n ≡ No k w → ⊥
 fine-no e = let z : _≡_ {A = ℕ} 0 1 = cc in omega arith
 
 -- the buffer of a text that was read, and of one that was refused

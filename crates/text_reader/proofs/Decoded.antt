@@ -1,10 +1,11 @@
 -- What was read is decoded from the records again, `#` included, and its records fit 12,288 bytes.
-use mathlib.Core.Bool.{true, false}
+use mathlib.Core.Bool.{true}
 use mathlib.Core.List.{List, _++_}
 use mathlib.Core.Path.{_≡_, ap, _∙_}
 use Prim.Native.Nat.{ℕ, _*_, _≤_}
 use native.Mathlib.Omega.{arith}
 use lib.ListN.{length, drop}
+use Rattle.common.proofs.Choices.{true-false}
 use Rattle.tree.specs.Tree.{Tree}
 use Rattle.tree.specs.Reading.Read.{got}
 use Rattle.records.specs.Encode.{encode}
@@ -16,9 +17,6 @@ use Rattle.texts.proofs.Back.{read-back}
 use Rattle.recipe.proofs.Reach.{encode-reach}
 use Rattle.text_reader.specs.declared.Parsed.{Parsed}
 use Rattle.text_reader.specs.Reader.{outOf, Answers}
-
-true-false : true ≡ false → ⊥
-true-false e = let z : _≡_ {A = ℕ} 0 1 = cc in omega arith
 
 -- a reader's records stand for the text's tree
 pub read-decodes : (s : List ℕ) (t : Tree) (r : Parsed) (before after : List ℕ) → readText s ≡ got t → Answers (readText s) r before after

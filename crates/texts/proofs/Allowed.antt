@@ -14,8 +14,8 @@ use Rattle.tree.specs.Tree.{Tree}
 use Rattle.tree.specs.Tree.Tree.{literal, bound, row, run, one, two, three, four, when}
 use Rattle.tree.specs.Calls.{Call, calls}
 use Rattle.tree.specs.Bounds.{argumentsOf, whenKind, Bytes, Proper}
-use Rattle.tree.specs.Reading.{Read}
 use Rattle.tree.specs.Reading.Read.{got, wrong}
+use Rattle.tree.proofs.Read.{not-both, same-wrong}
 use Rattle.texts.specs.Spelling.{Found, hexDigit, pairs, rowIn, suitePart, nameOf, listed, spell}
 use Rattle.texts.specs.Spelling.Found.{known, unknown}
 use Rattle.texts.specs.Reading.{Part, thenPart, between, isLetter, isHex, runOf, dueAt, ifDue, hexValue, pairAt, literalOf, literalAt, nameAt, callIn, callOf, startOf, argsAt, listAt, suiteAt, namedAt, callOn, byStart, exprAt, endAt, readText}
@@ -499,17 +499,11 @@ pub record Begins (s : List ℕ) (p : ℕ) : Type 0 where
   pub rest : List ℕ
   pub spelt : spell tree ≡ take p s ++ rest
 
-same-wrong : {k w j u : ℕ} → wrong k w ≡ wrong j u → (k ≡ j) × (w ≡ u)
-same-wrong e = (cc, cc)
-
-got-wrong : {t : Tree} {n p : ℕ} {x : Read} → x ≡ got t → x ≡ wrong n p → ⊥
-got-wrong e f = let z : _≡_ {A = ℕ} 0 1 = cc in omega arith
-
 place-inside : (s : List ℕ) (n p : ℕ) → readText s ≡ wrong n p → p ≤ length s
 place-inside s n p e = go (outcome s)
   where
     go : Outcome s → p ≤ length s
-    go (reads t f) = absurd (got-wrong f e)
+    go (reads t f) = absurd (not-both f e)
     go (refuses k w h l f) = rw (sym (same-wrong (sym f ∙ e) .1)) l
 
 begins-of : (s : List ℕ) (p : ℕ) → p ≤ length s → Leads s 0 p → Begins s p
@@ -540,7 +534,7 @@ allowed-before s p e = go (exprAt 16 s 0 0) refl e
         }
 
     last : (t : Tree) (q m : ℕ) (b : Bool) → exprAt 16 s 0 0 ≡ part t q m → pick b (got t) (wrong 20 q) ≡ wrong 20 p → Begins s p
-    last t q m true f g = absurd (got-wrong refl g)
+    last t q m true f g = absurd (not-both refl g)
     last t q m false f g = begins-of s p inside (ended t q m f (same-wrong g .1))
 
     go : (x : Part Tree) → exprAt 16 s 0 0 ≡ x → endAt s x ≡ wrong 20 p → Begins s p

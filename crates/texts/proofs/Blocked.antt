@@ -15,6 +15,7 @@ use Rattle.tree.specs.Tree.Tree.{literal, bound, row, run}
 use Rattle.tree.specs.Calls.{Call, calls}
 use Rattle.tree.specs.Bounds.{Proper}
 use Rattle.tree.specs.Reading.Read.{got, wrong}
+use Rattle.tree.proofs.Read.{got-wrong, same-wrong}
 use Rattle.texts.specs.Spelling.{Found, spell, width}
 use Rattle.texts.specs.Spelling.Found.{known, unknown}
 use Rattle.texts.specs.Reading.{Part, Due, thenPart, between, isLetter, isHex, runOf, dueAt, ifDue, pairAt, literalOf, literalAt, nameAt, callIn, callOf, startOf, argsAt, listAt, suiteAt, namedAt, callOn, byStart, exprAt, endAt, readText}
@@ -386,12 +387,6 @@ pub record Blocked (s : List ℕ) (p : ℕ) : Type 0 where
   pub extent : ℕ
   pub is : Extent s p extent
   pub same : (z : List ℕ) → Agree s z extent → readText z ≡ wrong 20 p
-
-same-wrong : {k w j u : ℕ} → wrong k w ≡ wrong j u → (k ≡ j) × (w ≡ u)
-same-wrong e = (cc, cc)
-
-got-wrong : {t : Tree} {n p : ℕ} → got t ≡ wrong n p → ⊥
-got-wrong e = let y : _≡_ {A = ℕ} 0 1 = cc in omega arith
 
 pub blocked : (s : List ℕ) (p : ℕ) → readText s ≡ wrong 20 p → p < length s → Blocked s p
 unfolding readText endAt pick

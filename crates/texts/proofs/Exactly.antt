@@ -13,6 +13,7 @@ use Rattle.tree.specs.Tree.{Tree}
 use Rattle.tree.specs.Bounds.{depth, nodes, Proper, Small, Within}
 use Rattle.tree.specs.Reading.{Read}
 use Rattle.tree.specs.Reading.Read.{got, wrong}
+use Rattle.tree.proofs.Read.{not-both}
 use Rattle.texts.specs.Spelling.{spell, width}
 use Rattle.texts.specs.Reading.{readText, takeText, ReadingNumber}
 use Rattle.texts.proofs.Spelt.{read-spell, take-spell, Judged, spell-judged}
@@ -34,16 +35,13 @@ pub record Refused (s : List ℕ) : Type 0 where
   pub one : ReadingNumber number
   pub inside : place ≤ length s
 
-got-wrong : {t : Tree} {n p : ℕ} {x : Read} → x ≡ got t → x ≡ wrong n p → ⊥
-got-wrong e f = let z : _≡_ {A = ℕ} 0 1 = cc in omega arith
-
 refused-of : (s : List ℕ) → ((t : Tree) → Within t → s ≡ spell t → ⊥) → Outcome s → Refused s
 refused-of s h (reads t e) = let b = read-back s t e in absurd (h t (b .1) (b .0))
 refused-of s h (refuses n p k l e) = record { number = n; place = p; is = e; one = k; inside = l }
 
 -- 20, 22, 23 and 6 are given for exactly the texts that spell no tree within the bounds
 pub refused-exactly : (s : List ℕ) → ((t : Tree) → Within t → s ≡ spell t → ⊥) ↔ Refused s
-refused-exactly s = (λ h. refused-of s h (outcome s), λ r t w e. got-wrong (ap readText e ∙ read-spell t w) (r .is))
+refused-exactly s = (λ h. refused-of s h (outcome s), λ r t w e. not-both (ap readText e ∙ read-spell t w) (r .is))
 
 -- a text of at most 4,096 bytes is read
 pub take-short : (s : List ℕ) → length s ≤ 4096 → takeText s ≡ readText s
@@ -81,7 +79,7 @@ take-as s t e = go (leb (length s) 4096) refl e
   where
     go : (b : Bool) → leb (length s) 4096 ≡ b → pick b (readText s) (wrong 21 0) ≡ got t → length s ≤ 4096
     go true eb f = leb-true (length s) 4096 eb
-    go false eb f = absurd (got-wrong f refl)
+    go false eb f = absurd (not-both f refl)
 
 -- a text is taken as a tree exactly if it is the tree's spelling and all four bounds hold
 pub takes-exactly : (s : List ℕ) (t : Tree) → (takeText s ≡ got t) ↔ ((s ≡ spell t) × Within t × (width t ≤ 4096))
@@ -105,7 +103,7 @@ long-exactly s = (λ e. go (leb (length s) 4096) refl e, take-long s)
     other ReadingNumber.long e = let z : _≡_ {A = ℕ} 6 21 = cc in omega arith
 
     not-read : Outcome s → readText s ≡ wrong 21 0 → ⊥
-    not-read (reads t e) f = got-wrong e f
+    not-read (reads t e) f = not-both e f
     not-read (refuses n p k l e) f = other k (sym e ∙ f)
 
     go : (b : Bool) → leb (length s) 4096 ≡ b → pick b (readText s) (wrong 21 0) ≡ wrong 21 0 → 4096 < length s

@@ -8,6 +8,7 @@ use lib.Dec.{eqb, leb}
 use lib.ListN.{length, length-reverse}
 use borrow.Author.Tests.{eq-eqb, ne-eqb, leb-true}
 use Rattle.common.specs.Choice.{pick}
+use Rattle.common.proofs.Choices.{false-true}
 use Rattle.tree.specs.Calls.{Call, calls, plain, cipher}
 use Rattle.texts.specs.Spelling.{Found}
 use Rattle.texts.specs.Spelling.Found.{known, unknown}
@@ -63,9 +64,6 @@ same-self : (a : List ℕ) → same a a ≡ true
 unfolding same pick
 same-self [] = refl
 same-self (x ∷ a) = rw (eq-eqb x x refl) (same-self a)
-
-false-true : false ≡ true → ⊥
-false-true e = let z : _≡_ {A = ℕ} 0 1 = cc in omega arith
 
 same-packed : (a b : List ℕ) → Pass isLetter a → Pass isLetter b → same a b ≡ eqb (packed a 0) (packed b 0)
 same-packed a b h g = go (same a b) refl

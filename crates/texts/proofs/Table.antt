@@ -8,6 +8,7 @@ use lib.Dec.{eqb, leb, ltb}
 use lib.ListN.{length}
 use borrow.Author.Tests.{eqb-true, ltb-true, leb-true}
 use Rattle.common.specs.Choice.{pick}
+use Rattle.common.proofs.Choices.{false-true}
 use Rattle.tree.specs.Calls.{Call, calls, plain, cipher}
 use Rattle.tree.specs.Bounds.{ofRow, argumentsIn, argumentsOf}
 use Rattle.texts.specs.Spelling.{rowIn}
@@ -105,9 +106,6 @@ all-good = (
     ),
   ),
 )
-
-false-true : false ≡ true → ⊥
-false-true e = let z : _≡_ {A = ℕ} 0 1 = cc in omega arith
 
 pub same-is : (a b : List ℕ) → same a b ≡ true → a ≡ b
 unfolding same

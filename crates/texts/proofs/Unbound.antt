@@ -226,7 +226,7 @@ unfolding later
 later-at w (at q) p e = (q, refl, sym (same-place e))
 later-at w nowhere p e = absurd (no-place e)
 
-later-nowhere : (w : ℕ) (x : Place) → later w x ≡ nowhere → x ≡ nowhere
+pub later-nowhere : (w : ℕ) (x : Place) → later w x ≡ nowhere → x ≡ nowhere
 unfolding later
 later-nowhere w (at q) e = absurd (no-place (sym e))
 later-nowhere w nowhere e = refl
@@ -368,16 +368,16 @@ unbound-first has t p e = scan-first has (spell t) p (sym (unbound-scan has t) �
 pub unbound-none : (has : ℕ → Bool) (t : Tree) → unboundAt has t ≡ nowhere → (q : ℕ) → getD (spell t) q 0 ≡ 35 → has (getD (spell t) (q + 1) 0 - 48) ≡ true
 unbound-none has t e = scan-none has (spell t) (sym (unbound-scan has t) ∙ e)
 
-first-none : (x : Place) (w : ℕ) (y : Place) → first x w y ≡ nowhere → (x ≡ nowhere) × (y ≡ nowhere)
+pub first-none : (x : Place) (w : ℕ) (y : Place) → first x w y ≡ nowhere → (x ≡ nowhere) × (y ≡ nowhere)
 unfolding first
 first-none (at p) w y e = absurd (no-place (sym e))
 first-none nowhere w y e = (refl, later-nowhere w y e)
 
-none-first : (x : Place) (w : ℕ) (y : Place) → x ≡ nowhere → y ≡ nowhere → first x w y ≡ nowhere
+pub none-first : (x : Place) (w : ℕ) (y : Place) → x ≡ nowhere → y ≡ nowhere → first x w y ≡ nowhere
 unfolding first later
 none-first x w y e f = rw (e, f)
 
-none-later : (w : ℕ) (x : Place) → x ≡ nowhere → later w x ≡ nowhere
+pub none-later : (w : ℕ) (x : Place) → x ≡ nowhere → later w x ≡ nowhere
 unfolding later
 none-later w x e = rw e
 

@@ -7,16 +7,9 @@ use native.Mathlib.Omega.{arith}
 use lib.Dec.{leb, ltb}
 use borrow.Author.Tests.{leb-true, ltb-true, eqb-true}
 use Rattle.common.specs.Choice.{pick}
+use Rattle.common.proofs.Choices.{pick-both}
 use Rattle.tree.specs.Calls.{Call, calls, plain, cipher}
 use Rattle.tree.specs.Bounds.{ofRow, argumentsIn, argumentsOf, whenKind}
-
-pub false-true : false ≡ true → ⊥
-false-true e = let z : _≡_ {A = ℕ} 0 1 = cc in omega arith
-
-pick-both : (b c : Bool) → pick b c false ≡ true → (b ≡ true) × (c ≡ true)
-unfolding pick
-pick-both true c e = (refl, e)
-pick-both false c e = absurd (false-true e)
 
 -- a row holds kinds from its own to five above it
 row-range : (s : Bool) (kind k : ℕ) → ofRow s kind k ≡ true → (kind ≤ k) × (k ≤ kind + 5)

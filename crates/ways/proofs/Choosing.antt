@@ -9,7 +9,6 @@ use lib.ListN.{length, take, drop, getD, length-append, length-drop}
 use lib.Seq.{take-at, drop-at, drop-drop, length-take-le}
 use borrow.Author.Tests.{eq-eqb, ne-eqb}
 use Rattle.common.specs.Choice.{pick}
-use Rattle.common.specs.Answer.Answer.{value}
 use Rattle.tree.specs.Tree.{Tree}
 use Rattle.tree.specs.Tree.Tree.{when}
 use Rattle.tree.specs.Bounds.{whenKind, depth, Bytes, Proper, Small}
@@ -25,7 +24,7 @@ use Rattle.records.specs.Decode.{decode}
 use Rattle.records.specs.Decode.Item.{item}
 use Rattle.records.proofs.There.{length-record, front-record}
 use Rattle.records.proofs.Back.{decode-back}
-use Rattle.records.proofs.Sizes.{nodes-size}
+use Rattle.records.proofs.Sizes.{nodes-size, same-item}
 use Rattle.kinds.specs.Tables.{tablesOf}
 use Rattle.heads.specs.declared.Head.the-variants.{Record, Cut}
 use Rattle.heads.specs.Head.{headOf, headAt}
@@ -44,9 +43,6 @@ use Rattle.ways.specs.declared.Way.the-variants as way
 use Rattle.ways.specs.Ways.{theCalls, boundBy, ACall, Goes, GoesSo, Choosing, sideNumber}
 use Rattle.ways.proofs.Evaluated.{encode-decodes, answer-of, eval-ready, first-deep, first-proper, first-small, first-within}
 use Rattle.ways.proofs.Staying.{as-call}
-
-same-item : {t r : Tree} {m n : ℕ} → item t m ≡ item r n → t ≡ r
-same-item e = cc
 
 -- of whatever tree stands there
 pub goes-so : (K : Binding) (s : List ℕ) (t : Tree) (n : ℕ) (r : Way) (w : List ℕ) → decode true 16 s ≡ item t n → Goes K s t r w → GoesSo K s r w

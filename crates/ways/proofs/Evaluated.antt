@@ -1,12 +1,12 @@
 -- A record that was decoded, as the evaluator takes it, and what the evaluator tells of it.
 use mathlib.Core.Path.{_≡_, ap, sym, _∙_, subst}
-use mathlib.Core.Bool.{true, false}
+use mathlib.Core.Bool.{true}
 use mathlib.Core.List.{List, [], _∷_, _++_}
 use Prim.Native.Nat.{ℕ, _+_, _-_, _≤_}
 use native.Mathlib.Omega.{arith}
 use lib.ListN.{length, take, drop}
 use lib.Seq.{take-at}
-use Rattle.common.specs.Answer.Answer.{value}
+use Rattle.common.proofs.Choices.{true-false}
 use Rattle.tree.specs.Tree.{Tree}
 use Rattle.tree.specs.Bounds.{depth, Bytes, Proper, Small}
 use Rattle.tree.specs.Names.{idle}
@@ -38,9 +38,6 @@ use Rattle.folding.proofs.TopDown.{refusal-none, constant-bytes}
 use Rattle.folding.proofs.Idle.{prepared-idle}
 use Rattle.folding.proofs.Parts.{head-held, head-there}
 use Rattle.ways.specs.Ways.{theCalls, boundIn, boundBy, Rooms, Ready, AConstant}
-
-true-false : true ≡ false → ⊥
-true-false e = let z : _≡_ {A = ℕ} 0 1 = cc in omega arith
 
 -- a tree's record decodes to it, whatever follows
 pub encode-decodes : (t : Tree) (r : List ℕ) → Proper t → Small t → depth t ≤ 16 → decode true 16 (encode t ++ r) ≡ item t (length (encode t))

@@ -2,8 +2,8 @@ use mathlib.Core.Path.{sym, subst}
 use Prim.Native.Nat.{_+_, _*_, _≤_}
 use lib.ListN.{length}
 use denote.Ref.{now}
+use Rattle.blocks.proofs.Widths.{eight-is}
 use Rattle.common.specs.Places.{tab}
-use Rattle.seal_block.proofs.Laws.{eight-is}
 use Rattle.stream_laws.specs.Gammas.{counted, Laid}
 use borrow.Author.Needs.{needs}
 use Rattle.ctr_mode.proofs.counters.Statement.{statement}

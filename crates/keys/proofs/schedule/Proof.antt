@@ -1,7 +1,7 @@
 use mathlib.Core.Path.{sym, ap, subst, _∙_}
 use denote.Ref.{now}
+use Rattle.blocks.proofs.Widths.{eight-is}
 use Rattle.kalyna.specs.State.{columnsOf}
-use Rattle.seal_block.proofs.Laws.{eight-is}
 use Rattle.key_laws.specs.Turns.{Sized}
 use Rattle.key_laws.specs.Schedule.{scheduleOf}
 use Rattle.keys.proofs.schedule.Statement.{statement}

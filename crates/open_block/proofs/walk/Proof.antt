@@ -1,6 +1,7 @@
 use lib.ListN.{length}
 use denote.Ref.{now}
-use Rattle.open_laws.proofs.Cells.{room-at, round-2, round-at, width-8}
+use Rattle.blocks.proofs.Widths.{eight-is}
+use Rattle.open_laws.proofs.Cells.{room-at, round-2, round-at}
 use borrow.Author.Needs.{needs}
 use Rattle.open_block.proofs.walk.Statement.{statement}
 use Rattle.open_block.proofs.walk.Tie as tie
@@ -15,7 +16,7 @@ walk4-requires c κs = room-at 4 (c .before .before .before .before .before .arg
 
 -- src/lib.rt:95:9
 walk8-requires : tie.Need-walk8-requires
-walk8-requires c κs = room-at 8 (c .before .before .before .before .before .args .c) (c .before .before .before .before .before .args .n) (c .before .before .before .before .before .args .at) (length (now (c .before .before .before .before .before .args .s))) (length (now (c .before .before .before .before .before .args .ks))) (width-8 (c .before .before .before .before .before .args .c) (c .before .before .before .before .before .pre .1) (c .before .before .if1 .left) (c .before .if2 .left)) (c .before .before .before .before .before .pre .2) (c .before .before .before .before .before .pre .3)
+walk8-requires c κs = room-at 8 (c .before .before .before .before .before .args .c) (c .before .before .before .before .before .args .n) (c .before .before .before .before .before .args .at) (length (now (c .before .before .before .before .before .args .s))) (length (now (c .before .before .before .before .before .args .ks))) (eight-is (c .before .before .before .before .before .args .c) (c .before .before .before .before .before .pre .1) (c .before .before .if1 .left) (c .before .if2 .left)) (c .before .before .before .before .before .pre .2) (c .before .before .before .before .before .pre .3)
 
 -- src/lib.rt:86:1
 same-length : tie.Need-same-length
@@ -39,7 +40,7 @@ same-length-3 c = search needs
 
 -- src/lib.rt:86:1
 returns-3 : tie.Need-returns-3
-returns-3 c = round-at 8 (c .before .before .before .before .before .before .before .before .args .c) (c .before .before .before .before .before .before .before .before .args .n) (c .before .before .before .before .before .before .before .before .args .at) (now (c .before .before .before .before .before .before .before .before .args .t)) (now (c .before .before .before .before .before .before .before .before .args .ks)) (now (c .before .before .before .before .before .before .before .before .args .s)) (c .before .before .walk8 .last .1 .0) (width-8 (c .before .before .before .before .before .before .before .before .args .c) (c .before .before .before .before .before .before .before .before .pre .1) (c .before .before .before .before .before .if1 .left) (c .before .before .before .before .if2 .left)) (c .before .before .before .before .before .before .before .before .pre .0) (c .before .before .walk8 .ensures)
+returns-3 c = round-at 8 (c .before .before .before .before .before .before .before .before .args .c) (c .before .before .before .before .before .before .before .before .args .n) (c .before .before .before .before .before .before .before .before .args .at) (now (c .before .before .before .before .before .before .before .before .args .t)) (now (c .before .before .before .before .before .before .before .before .args .ks)) (now (c .before .before .before .before .before .before .before .before .args .s)) (c .before .before .walk8 .last .1 .0) (eight-is (c .before .before .before .before .before .before .before .before .args .c) (c .before .before .before .before .before .before .before .before .pre .1) (c .before .before .before .before .before .if1 .left) (c .before .before .before .before .if2 .left)) (c .before .before .before .before .before .before .before .before .pre .0) (c .before .before .walk8 .ensures)
 
 pub walk-spec : {M : Type 1} → statement M
 walk-spec =

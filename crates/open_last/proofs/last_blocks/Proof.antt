@@ -1,10 +1,11 @@
 use mathlib.Core.Path.{sym, subst}
 use lib.ListN.{length}
 use denote.Ref.{now}
+use Rattle.blocks.proofs.Widths.{eight-is}
 use Rattle.words.specs.Words.{Walked}
 use Rattle.rounds.specs.Rounds.{keyAt}
 use Rattle.open_laws.specs.Opening.{lastRound}
-use Rattle.open_laws.proofs.Cells.{room-at, width-8}
+use Rattle.open_laws.proofs.Cells.{room-at}
 use borrow.Author.Needs.{needs}
 use Rattle.open_last.proofs.last_blocks.Statement.{statement}
 use Rattle.open_last.proofs.last_blocks.Tie as tie
@@ -19,7 +20,7 @@ lasts4-requires c κs = (c .before .before .before .before .before .pre .0, (roo
 
 -- src/lib.rt:167:9
 lasts8-requires : tie.Need-lasts8-requires
-lasts8-requires c κs = (c .before .before .before .before .before .pre .0, (room-at 8 (c .before .before .before .before .before .args .c) (c .before .before .before .before .before .args .n) (c .before .before .before .before .before .args .at) (length (now (c .before .before .before .before .before .args .s))) (length (now (c .before .before .before .before .before .args .ks))) (width-8 (c .before .before .before .before .before .args .c) (c .before .before .before .before .before .pre .1) (c .before .before .if1 .left) (c .before .if2 .left)) (c .before .before .before .before .before .pre .2) (c .before .before .before .before .before .pre .3)) .0, (room-at 8 (c .before .before .before .before .before .args .c) (c .before .before .before .before .before .args .n) (c .before .before .before .before .before .args .at) (length (now (c .before .before .before .before .before .args .s))) (length (now (c .before .before .before .before .before .args .ks))) (width-8 (c .before .before .before .before .before .args .c) (c .before .before .before .before .before .pre .1) (c .before .before .if1 .left) (c .before .if2 .left)) (c .before .before .before .before .before .pre .2) (c .before .before .before .before .before .pre .3)) .1)
+lasts8-requires c κs = (c .before .before .before .before .before .pre .0, (room-at 8 (c .before .before .before .before .before .args .c) (c .before .before .before .before .before .args .n) (c .before .before .before .before .before .args .at) (length (now (c .before .before .before .before .before .args .s))) (length (now (c .before .before .before .before .before .args .ks))) (eight-is (c .before .before .before .before .before .args .c) (c .before .before .before .before .before .pre .1) (c .before .before .if1 .left) (c .before .if2 .left)) (c .before .before .before .before .before .pre .2) (c .before .before .before .before .before .pre .3)) .0, (room-at 8 (c .before .before .before .before .before .args .c) (c .before .before .before .before .before .args .n) (c .before .before .before .before .before .args .at) (length (now (c .before .before .before .before .before .args .s))) (length (now (c .before .before .before .before .before .args .ks))) (eight-is (c .before .before .before .before .before .args .c) (c .before .before .before .before .before .pre .1) (c .before .before .if1 .left) (c .before .if2 .left)) (c .before .before .before .before .before .pre .2) (c .before .before .before .before .before .pre .3)) .1)
 
 -- src/lib.rt:158:1
 same-length : tie.Need-same-length
@@ -43,7 +44,7 @@ same-length-3 c = search needs
 
 -- src/lib.rt:158:1
 returns-3 : tie.Need-returns-3
-returns-3 c = subst (λ d. Walked d (c .before .before .before .before .before .before .before .before .args .n) (lastRound d (keyAt d (now (c .before .before .before .before .before .before .before .before .args .ks)) (c .before .before .before .before .before .before .before .before .args .at))) (now (c .before .before .before .before .before .before .before .before .args .s)) (c .before .before .lasts8 .last .1 .0)) (sym (width-8 (c .before .before .before .before .before .before .before .before .args .c) (c .before .before .before .before .before .before .before .before .pre .1) (c .before .before .before .before .before .if1 .left) (c .before .before .before .before .if2 .left))) (c .before .before .lasts8 .ensures)
+returns-3 c = subst (λ d. Walked d (c .before .before .before .before .before .before .before .before .args .n) (lastRound d (keyAt d (now (c .before .before .before .before .before .before .before .before .args .ks)) (c .before .before .before .before .before .before .before .before .args .at))) (now (c .before .before .before .before .before .before .before .before .args .s)) (c .before .before .lasts8 .last .1 .0)) (sym (eight-is (c .before .before .before .before .before .before .before .before .args .c) (c .before .before .before .before .before .before .before .before .pre .1) (c .before .before .before .before .before .if1 .left) (c .before .before .before .before .if2 .left))) (c .before .before .lasts8 .ensures)
 
 pub last-blocks-spec : {M : Type 1} → statement M
 last-blocks-spec =

@@ -1,13 +1,6 @@
-use mathlib.Core.Path.{_≡_, refl, sym, ap, subst, _∙_}
-use Prim.Native.Nat.{ℕ, _+_, _-_, _*_, _≤_, _<_}
-use native.Mathlib.Nat.{mul-zero, mul-one}
 use native.Mathlib.Omega.{arith}
-use lib.ListN.{length}
 use denote.Ref.{now}
-use Rattle.words.specs.Words.{Walked}
-use Rattle.kalyna.specs.Block.{rounds}
-use Rattle.blocks.specs.Blocks.{keysOf}
-use Rattle.seal_block.proofs.Laws.{round-at, eight-is, last-is, rounds-more, rounds-none, key-room, next-key, seal-is}
+use Rattle.seal_block.proofs.Laws.{last-is}
 use Rattle.rounds.specs.Rounds.{keyAt}
 use borrow.Author.Needs.{needs}
 use Rattle.seal_block.proofs.last_round.Statement.{statement}

@@ -1,13 +1,9 @@
-use mathlib.Core.Path.{_≡_, refl, sym, ap, subst, _∙_}
-use Prim.Native.Nat.{ℕ, _+_, _-_, _*_, _≤_, _<_}
-use native.Mathlib.Nat.{mul-zero, mul-one}
-use native.Mathlib.Omega.{arith}
+use mathlib.Core.Path.{subst}
+use Prim.Native.Nat.{_+_, _*_, _≤_}
 use lib.ListN.{length}
 use denote.Ref.{now}
-use Rattle.words.specs.Words.{Walked}
-use Rattle.kalyna.specs.Block.{rounds}
-use Rattle.blocks.specs.Blocks.{keysOf}
-use Rattle.seal_block.proofs.Laws.{round-at, eight-is, last-is, rounds-more, rounds-none, key-room, next-key, seal-is}
+use Rattle.blocks.proofs.Widths.{eight-is}
+use Rattle.seal_block.proofs.Laws.{round-at}
 use borrow.Author.Needs.{needs}
 use Rattle.seal_block.proofs.round.Statement.{statement}
 use Rattle.seal_block.proofs.round.Tie as tie

@@ -1,6 +1,7 @@
 use lib.ListN.{length}
 use denote.Ref.{now}
-use Rattle.seal_block.proofs.Laws.{eight-is, seal-at, room-at}
+use Rattle.blocks.proofs.Widths.{eight-is}
+use Rattle.seal_block.proofs.Laws.{seal-at, room-at}
 use borrow.Author.Needs.{needs}
 use Rattle.seal_block.proofs.seal_blocks.Statement.{statement}
 use Rattle.seal_block.proofs.seal_blocks.Tie as tie

@@ -4,7 +4,8 @@ use Prim.Native.Nat.{_-_, _*_, _≤_}
 use native.Mathlib.Omega.{arith}
 use lib.ListN.{length}
 use denote.Ref.{now}
-use Rattle.tags.proofs.Same.{differ, differ-more, differ-none, differ-same, differ-other, picked-one, picked-zero}
+use Rattle.common.proofs.Choices.{picked-one, picked-zero}
+use Rattle.tags.proofs.Same.{differ, differ-more, differ-none, differ-same, differ-other}
 use Rattle.tags.proofs.same_tag.Statement.{statement}
 use Rattle.tags.proofs.same_tag.Tie as tie
 use Rattle.tags.proofs.same_tag.Reads as reads
