@@ -5,19 +5,15 @@ use Rattle.answers.proofs.give.Tie as tie
 use Rattle.answers.proofs.give.Reads as reads
 use Rattle.answers.proofs.give.Lts as lts
 
--- src/lib.rt:15:20
 enum-known-t : tie.Need-enum-known-t
 enum-known-t c = search needs
 
--- src/lib.rt:19:23
 enum-known-t-2 : tie.Need-enum-known-t-2
 enum-known-t-2 c = search needs
 
--- src/lib.rt:11:1
 returns : tie.Need-returns
 returns c = done-told (c .before .before .before .args .t) (c .before .t .given .0 .0) (c .before .t .given .1)
 
--- src/lib.rt:11:1
 returns-2 : tie.Need-returns-2
 returns-2 c = refused-told (c .before .before .before .args .t) (c .before .t2 .given .0 .0) (c .before .t2 .given .1)
 

@@ -7,87 +7,66 @@ use borrow.Author.Needs.{needs}
 use Rattle.applying.proofs.apply_three.Statement.{statement}
 use Rattle.applying.proofs.apply_three.Tie as tie
 
--- src/lib.rt:129:14
 add-ea : tie.Need-add-ea
 add-ea c = search needs
 
--- src/lib.rt:130:18
 add-second : tie.Need-add-second
 add-second c = search needs
 
--- src/lib.rt:131:14
 add-eb : tie.Need-add-eb
 add-eb c = search needs
 
--- src/lib.rt:132:17
 add-third : tie.Need-add-third
 add-third c = search needs
 
--- src/lib.rt:133:14
 add-ec : tie.Need-add-ec
 add-ec c = search needs
 
--- src/lib.rt:141:9
 sub-call-three : tie.Need-sub-call-three
 sub-call-three c = search needs
 
--- src/lib.rt:141:9
 part-call-three-start : tie.Need-part-call-three-start
 part-call-three-start c = search needs
 
--- src/lib.rt:141:9
 part-call-three-end : tie.Need-part-call-three-end
 part-call-three-end c = search needs
 
--- src/lib.rt:142:9
 sub-call-three-2 : tie.Need-sub-call-three-2
 sub-call-three-2 c = search needs
 
--- src/lib.rt:142:9
 part-call-three-start-2 : tie.Need-part-call-three-start-2
 part-call-three-start-2 c = search needs
 
--- src/lib.rt:142:9
 part-call-three-end-2 : tie.Need-part-call-three-end-2
 part-call-three-end-2 c = search needs
 
--- src/lib.rt:143:9
 sub-call-three-3 : tie.Need-sub-call-three-3
 sub-call-three-3 c = search needs
 
--- src/lib.rt:143:9
 part-call-three-start-3 : tie.Need-part-call-three-start-3
 part-call-three-start-3 c = search needs
 
--- src/lib.rt:143:9
 part-call-three-end-3 : tie.Need-part-call-three-end-3
 part-call-three-end-3 c = search needs
 
--- src/lib.rt:144:9
 slice-aggregate-call-three : tie.Need-slice-aggregate-call-three
 slice-aggregate-call-three c = search needs
 
--- src/lib.rt:135:9
 call-three-requires : tie.Need-call-three-requires
 call-three-requires c κs = search needs
 
--- src/lib.rt:146:11
 settled-requires : tie.Need-settled-requires
 settled-requires c κs = search needs
 
--- src/lib.rt:146:30
 slice-aggregate-leave : tie.Need-slice-aggregate-leave
 slice-aggregate-leave c = search needs
 
--- src/lib.rt:146:5
 leave-requires : tie.Need-leave-requires
 leave-requires c κs = (under _ _ (fits-slot (c .before .before .before .before .call-three .result) (c .before .before .settled .result) (c .before .before .before .before .call-three .last .1 .1 .1 .1 .1 .1 .1 .1 .0) (c .before .before .settled .ensures) _ (three-led (c .before .before .before .before .before .before .before .before .before .before .before .args .k) (c .before .before .before .before .before .before .before .before .before .before .before .args .o) (c .before .before .before .before .before .before .before .before .before .before .before .args .work .now) _ (c .before .before .before .before .call-three .last .1 .1 .1 .1 .1 .1 .1 .1 .0) (c .before .before .before .before .call-three .result) (λ i. omega (arith, c .before .before .before .before .before .before .before .before .before .before .slice-known .given i)) refl _ _ _ (c .before .before .before .before .before .before .before .before .before .before .before .args .la) (c .before .before .before .before .before .before .before .before .before .before .before .args .lb) (c .before .before .before .before .before .before .before .before .before .before .before .args .lc) (c .before .before .before .before .before .before .before .before .before .before .before .pre .1) (c .before .before .before .before .before .before .before .before .before .before .before .pre .2) (c .before .before .before .before .before .before .before .before .before .before .before .pre .3) (part-lent (c .before .before .before .before .before .before .before .before .before .before .before .args .work .now) (c .before .before .before .before .before .before .before .before .before .before .before .args .o) (c .before .before .before .before .before .before .before .before .before .before .before .args .la)) (part-lent (c .before .before .before .before .before .before .before .before .before .before .before .args .work .now) ((c .before .before .before .before .before .before .before .before .before .before .before .args .o) + 1024) (c .before .before .before .before .before .before .before .before .before .before .before .args .lb)) (part-lent (c .before .before .before .before .before .before .before .before .before .before .before .args .work .now) ((c .before .before .before .before .before .before .before .before .before .before .before .args .o) + 2048) (c .before .before .before .before .before .before .before .before .before .before .before .args .lc)) (c .before .before .before .before .call-three .ensures))) (c .before .before .before .before .call-three .kept .1 .1 .1 .1 .1 .1 .1 .1 .0), omega (arith, fits-slot (c .before .before .before .before .call-three .result) (c .before .before .settled .result) (c .before .before .before .before .call-three .last .1 .1 .1 .1 .1 .1 .1 .1 .0) (c .before .before .settled .ensures) _ (three-led (c .before .before .before .before .before .before .before .before .before .before .before .args .k) (c .before .before .before .before .before .before .before .before .before .before .before .args .o) (c .before .before .before .before .before .before .before .before .before .before .before .args .work .now) _ (c .before .before .before .before .call-three .last .1 .1 .1 .1 .1 .1 .1 .1 .0) (c .before .before .before .before .call-three .result) (λ i. omega (arith, c .before .before .before .before .before .before .before .before .before .before .slice-known .given i)) refl _ _ _ (c .before .before .before .before .before .before .before .before .before .before .before .args .la) (c .before .before .before .before .before .before .before .before .before .before .before .args .lb) (c .before .before .before .before .before .before .before .before .before .before .before .args .lc) (c .before .before .before .before .before .before .before .before .before .before .before .pre .1) (c .before .before .before .before .before .before .before .before .before .before .before .pre .2) (c .before .before .before .before .before .before .before .before .before .before .before .pre .3) (part-lent (c .before .before .before .before .before .before .before .before .before .before .before .args .work .now) (c .before .before .before .before .before .before .before .before .before .before .before .args .o) (c .before .before .before .before .before .before .before .before .before .before .before .args .la)) (part-lent (c .before .before .before .before .before .before .before .before .before .before .before .args .work .now) ((c .before .before .before .before .before .before .before .before .before .before .before .args .o) + 1024) (c .before .before .before .before .before .before .before .before .before .before .before .args .lb)) (part-lent (c .before .before .before .before .before .before .before .before .before .before .before .args .work .now) ((c .before .before .before .before .before .before .before .before .before .before .before .args .o) + 2048) (c .before .before .before .before .before .before .before .before .before .before .before .args .lc)) (c .before .before .before .before .call-three .ensures)), c .before .before .before .before .before .before .before .before .before .before .before .pre .0))
 
--- src/lib.rt:114:1
 same-length : tie.Need-same-length
 same-length c = search needs
 
--- src/lib.rt:114:1
 returns : tie.Need-returns
 returns c = as-left _ (c .before .before .before .before .before .before .before .before .before .before .before .before .before .before .args .o) (c .before .before .leave .result) (c .before .before .before .before .before .settled .result) (c .before .before .before .before .before .before .before .before .before .before .before .before .before .before .args .work .now) _ _ (c .before .before .leave .ensures .0) (c .before .before .leave .ensures .1) (left-at (c .before .before .before .before .before .before .before .call-three .result) (c .before .before .before .before .before .settled .result) (c .before .before .before .before .before .before .before .call-three .last .1 .1 .1 .1 .1 .1 .1 .1 .0) (c .before .before .before .before .before .settled .ensures) _ (c .before .before .before .before .before .before .before .before .before .before .before .before .before .before .args .o) (c .before .before .before .before .before .before .before .before .before .before .before .before .before .before .args .work .now) (three-led (c .before .before .before .before .before .before .before .before .before .before .before .before .before .before .args .k) (c .before .before .before .before .before .before .before .before .before .before .before .before .before .before .args .o) (c .before .before .before .before .before .before .before .before .before .before .before .before .before .before .args .work .now) _ (c .before .before .before .before .before .before .before .call-three .last .1 .1 .1 .1 .1 .1 .1 .1 .0) (c .before .before .before .before .before .before .before .call-three .result) (λ i. omega (arith, c .before .before .before .before .before .before .before .before .before .before .before .before .before .slice-known .given i)) refl _ _ _ (c .before .before .before .before .before .before .before .before .before .before .before .before .before .before .args .la) (c .before .before .before .before .before .before .before .before .before .before .before .before .before .before .args .lb) (c .before .before .before .before .before .before .before .before .before .before .before .before .before .before .args .lc) (c .before .before .before .before .before .before .before .before .before .before .before .before .before .before .pre .1) (c .before .before .before .before .before .before .before .before .before .before .before .before .before .before .pre .2) (c .before .before .before .before .before .before .before .before .before .before .before .before .before .before .pre .3) (part-lent (c .before .before .before .before .before .before .before .before .before .before .before .before .before .before .args .work .now) (c .before .before .before .before .before .before .before .before .before .before .before .before .before .before .args .o) (c .before .before .before .before .before .before .before .before .before .before .before .before .before .before .args .la)) (part-lent (c .before .before .before .before .before .before .before .before .before .before .before .before .before .before .args .work .now) ((c .before .before .before .before .before .before .before .before .before .before .before .before .before .before .args .o) + 1024) (c .before .before .before .before .before .before .before .before .before .before .before .before .before .before .args .lb)) (part-lent (c .before .before .before .before .before .before .before .before .before .before .before .before .before .before .args .work .now) ((c .before .before .before .before .before .before .before .before .before .before .before .before .before .before .args .o) + 2048) (c .before .before .before .before .before .before .before .before .before .before .before .before .before .before .args .lc)) (c .before .before .before .before .before .before .before .call-three .ensures)) (c .before .before .before .before .before .before .before .call-three .kept .1 .1 .1 .1 .1 .1 .1 .1 .0) (omega (arith, c .before .before .before .before .before .before .before .before .before .before .before .before .before .before .pre .0)))
 

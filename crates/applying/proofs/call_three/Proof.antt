@@ -4,19 +4,15 @@ use borrow.Author.Needs.{needs}
 use Rattle.applying.proofs.call_three.Statement.{statement}
 use Rattle.applying.proofs.call_three.Tie as tie
 
--- src/lib.rt:75:14
 sub-f : tie.Need-sub-f
 sub-f c = (three-says (c .before .before .before .before .args .k) (c .before .before .before .before .pre .0) (c .before .before .before .before .pre .1)) .high
 
--- src/lib.rt:76:5
 call-requires : tie.Need-call-requires
 call-requires c κs = lent-number (c .before .before .before .before .before .args .k) (c .before .before .before .before .before .args .tab .now) (c .before .before .before .before .before .args .back .now) (c .before .before .before .before .before .args .p .now) (c .before .before .before .before .before .args .u .now) (three-says (c .before .before .before .before .before .args .k) (c .before .before .before .before .before .pre .0) (c .before .before .before .before .before .pre .1)) (c .before .before .before .before .before .pre .2)
 
--- src/lib.rt:61:1
 same-length : tie.Need-same-length
 same-length c = search needs
 
--- src/lib.rt:61:1
 returns : tie.Need-returns
 returns c = as-three (c .before .before .before .before .before .before .before .before .args .k) (c .before .before .before .before .before .before .before .before .args .a .now) (c .before .before .before .before .before .before .before .before .args .b .now) (c .before .before .before .before .before .before .before .before .args .c .now) (c .before .before .before .before .before .before .before .before .args .out .now) _ (c .before .before .before .before .before .before .before .before .pre .0) (c .before .before .before .before .before .before .before .before .pre .1) (c .before .before .call .ensures)
 

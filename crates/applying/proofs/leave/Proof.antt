@@ -6,31 +6,24 @@ use borrow.Author.Needs.{needs}
 use Rattle.applying.proofs.leave.Statement.{statement}
 use Rattle.applying.proofs.leave.Tie as tie
 
--- src/lib.rt:24:20
 enum-known-t : tie.Need-enum-known-t
 enum-known-t c = search needs
 
--- src/lib.rt:25:35
 slice-aggregate-put : tie.Need-slice-aggregate-put
 slice-aggregate-put c = sym (length-take-le (c .before .before .before .t .given .0 .0) (c .before .before .before .before .before .before .before .args .out .now) (omega (arith, count-done (c .before .before .before .before .before .before .before .args .t) (c .before .before .before .t .given .0 .0) (c .before .before .before .t .given .1), c .before .before .before .before .before .before .before .pre .0)))
 
--- src/lib.rt:25:13
 put-requires : tie.Need-put-requires
 put-requires c κs = omega (arith, length-take-le (c .before .before .before .t .given .0 .0) (c .before .before .before .before .before .before .before .args .out .now) (omega (arith, count-done (c .before .before .before .before .before .before .before .args .t) (c .before .before .before .t .given .0 .0) (c .before .before .before .t .given .1), c .before .before .before .before .before .before .before .pre .0)), count-done (c .before .before .before .before .before .before .before .args .t) (c .before .before .before .t .given .0 .0) (c .before .before .before .t .given .1), c .before .before .before .before .before .before .before .pre .1)
 
--- src/lib.rt:28:23
 enum-known-t-2 : tie.Need-enum-known-t-2
 enum-known-t-2 c = search needs
 
--- src/lib.rt:19:1
 same-length : tie.Need-same-length
 same-length c = search needs
 
--- src/lib.rt:19:1
 returns : tie.Need-returns
 returns c = (sym (c .before .before .before .before .before .before .t .given .1), leaves-value (c .before .before .before .before .before .before .before .before .before .before .args .t) (c .before .before .before .before .before .before .before .before .before .before .args .out .now) (c .before .before .before .before .before .before .before .before .before .before .args .work .now) (c .before .before .before .before .before .before .before .before .before .before .args .o) (c .before .before .before .before .before .before .t .given .0 .0) _ (c .before .before .before .before .before .before .t .given .1) (omega (arith, count-done (c .before .before .before .before .before .before .before .before .before .before .args .t) (c .before .before .before .before .before .before .t .given .0 .0) (c .before .before .before .before .before .before .t .given .1), c .before .before .before .before .before .before .before .before .before .before .pre .0)) (c .before .before .put .ensures))
 
--- src/lib.rt:19:1
 returns-2 : tie.Need-returns-2
 returns-2 c = (sym (c .before .t2 .given .1), leaves-none (c .before .before .before .before .before .args .t) (c .before .before .before .before .before .args .out .now) (c .before .before .before .before .before .args .work .now) (c .before .before .before .before .before .args .o) (c .before .t2 .given .0 .0) (c .before .t2 .given .1))
 

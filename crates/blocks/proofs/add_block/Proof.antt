@@ -24,60 +24,46 @@ Inv-loop s₀ w c ks at j₀ s j = (j ≤ c) × (s ≡ putWords s₀ w j (λ j. 
 abbrev μ-loop : tie.MeasureT-loop
 μ-loop s₀ w c ks at j₀ s j = c - j
 
--- src/lib.rt:15:5
 loop-holds : tie.Need-loop-holds Inv-loop μ-loop
 unfolding putWords
 loop-holds c = (omega arith, refl)
 
--- src/lib.rt:16:35
 add-word-at : tie.Need-add-word-at Inv-loop μ-loop
 add-word-at c = search needs
 
--- src/lib.rt:16:13
 word-at-requires : tie.Need-word-at-requires Inv-loop μ-loop
 word-at-requires c κs = omega (arith, ap length (c .before .before .loop .inv .1), length-puts (now (c .before .before .before .before .before .args .s)) (c .before .before .before .before .before .args .w) (c .before .before .loop .j) (λ j. (wordAt (now (c .before .before .before .before .before .args .s)) (c .before .before .before .before .before .args .w + j) + getD (now (c .before .before .before .before .before .args .ks)) (c .before .before .before .before .before .args .at + j) 0) % 2 ^ 64))
 
--- src/lib.rt:17:28
 add-put-word : tie.Need-add-put-word Inv-loop μ-loop
 add-put-word c = search needs
 
--- src/lib.rt:17:68
 add-wrapping-add-u64 : tie.Need-add-wrapping-add-u64 Inv-loop μ-loop
 add-wrapping-add-u64 c = search needs
 
--- src/lib.rt:17:65
 mul-wrapping-add-u64 : tie.Need-mul-wrapping-add-u64 Inv-loop μ-loop
 mul-wrapping-add-u64 c = search needs
 
--- src/lib.rt:17:65
 shared-slice-read-wrapping-add-u64 : tie.Need-shared-slice-read-wrapping-add-u64 Inv-loop μ-loop
 shared-slice-read-wrapping-add-u64 c = search needs
 
--- src/lib.rt:17:35
 wrapping-add-u64-requires : tie.Need-wrapping-add-u64-requires Inv-loop μ-loop
 wrapping-add-u64-requires c κs = search needs
 
--- src/lib.rt:17:9
 put-word-requires : tie.Need-put-word-requires Inv-loop μ-loop
 put-word-requires c κs = omega (arith, ap length (c .before .before .before .before .before .before .loop .inv .1), length-puts (now (c .before .before .before .before .before .before .before .before .before .args .s)) (c .before .before .before .before .before .before .before .before .before .args .w) (c .before .before .before .before .before .before .loop .j) (λ j. (wordAt (now (c .before .before .before .before .before .before .before .before .before .args .s)) (c .before .before .before .before .before .before .before .before .before .args .w + j) + getD (now (c .before .before .before .before .before .before .before .before .before .args .ks)) (c .before .before .before .before .before .before .before .before .before .args .at + j) 0) % 2 ^ 64))
 
--- src/lib.rt:18:9
 add-j : tie.Need-add-j Inv-loop μ-loop
 add-j c = search needs
 
--- src/lib.rt:15:5
 loop-less : tie.Need-loop-less Inv-loop μ-loop
 loop-less c = search needs
 
--- src/lib.rt:15:5
 loop-again : tie.Need-loop-again Inv-loop μ-loop
 loop-again c = (omega arith, puts-more (now (c .before .before .before .before .before .before .before .before .before .before .before .before .args .s)) (c .before .before .before .before .before .before .before .before .before .loop .s) (c .before .before .put-word .last .0) (c .before .before .before .before .before .before .before .before .before .before .before .before .args .w) (c .before .before .before .before .before .before .before .before .before .loop .j) (λ j. (wordAt (now (c .before .before .before .before .before .before .before .before .before .before .before .before .args .s)) (c .before .before .before .before .before .before .before .before .before .before .before .before .args .w + j) + getD (now (c .before .before .before .before .before .before .before .before .before .before .before .before .args .ks)) (c .before .before .before .before .before .before .before .before .before .before .before .before .args .at + j) 0) % 2 ^ 64) _ (c .before .before .before .before .before .before .before .before .before .loop .inv .1) (c .before .before .put-word .ensures) (c .before .before .before .wrapping-add-u64 .ensures ∙ ap (λ x. (x + getD (now (c .before .before .before .before .before .before .before .before .before .before .before .before .args .ks)) (c .before .before .before .before .before .before .before .before .before .before .before .before .args .at + c .before .before .before .before .before .before .before .before .before .loop .j) 0) % 2 ^ 64) (c .before .before .before .before .before .before .word-at .ensures ∙ puts-next (now (c .before .before .before .before .before .before .before .before .before .before .before .before .args .s)) (c .before .before .before .before .before .before .before .before .before .loop .s) (c .before .before .before .before .before .before .before .before .before .before .before .before .args .w) (c .before .before .before .before .before .before .before .before .before .loop .j) (λ j. (wordAt (now (c .before .before .before .before .before .before .before .before .before .before .before .before .args .s)) (c .before .before .before .before .before .before .before .before .before .before .before .before .args .w + j) + getD (now (c .before .before .before .before .before .before .before .before .before .before .before .before .args .ks)) (c .before .before .before .before .before .before .before .before .before .before .before .before .args .at + j) 0) % 2 ^ 64) (c .before .before .before .before .before .before .before .before .before .loop .inv .1))))
 
--- src/lib.rt:10:1
 same-length : tie.Need-same-length Inv-loop μ-loop
 same-length c = ap length (c .before .loop .inv .1) ∙ length-puts (now (c .before .before .before .before .args .s)) (c .before .before .before .before .args .w) (c .before .loop .j) (λ j. (wordAt (now (c .before .before .before .before .args .s)) (c .before .before .before .before .args .w + j) + getD (now (c .before .before .before .before .args .ks)) (c .before .before .before .before .args .at + j) 0) % 2 ^ 64)
 
--- src/lib.rt:10:1
 returns : tie.Need-returns Inv-loop μ-loop
 returns c = c .before .loop .inv .1 ∙ ap (λ n. putWords (now (c .before .before .before .before .args .s)) (c .before .before .before .before .args .w) n (λ j. (wordAt (now (c .before .before .before .before .args .s)) (c .before .before .before .before .args .w + j) + getD (now (c .before .before .before .before .args .ks)) (c .before .before .before .before .args .at + j) 0) % 2 ^ 64)) (omega arith)
 

@@ -22,35 +22,27 @@ Inv-loop s₀ n c ks at i₀ w₀ s i w = (i ≤ n) × (w ≡ c * i) × Walked c
 abbrev μ-loop : tie.MeasureT-loop
 μ-loop s₀ n c ks at i₀ w₀ s i w = n - i
 
--- src/lib.rt:55:5
 loop-holds : tie.Need-loop-holds Inv-loop μ-loop
 loop-holds c = (omega arith, sym (mul-zero (c .before .before .args .c)), walk-none (c .before .before .args .c) (subKey (c .before .before .args .c) (keyAt (c .before .before .args .c) (now (c .before .before .args .ks)) (c .before .before .args .at))) (now (c .before .before .args .s)))
 
--- src/lib.rt:56:9
 sub-block-requires : tie.Need-sub-block-requires Inv-loop μ-loop
 sub-block-requires c κs = omega (arith, room (c .before .before .before .before .before .args .c) (c .before .before .loop .i) (c .before .before .before .before .before .args .n) (length (now (c .before .before .before .before .before .args .s))) (c .before .loop-test .taken) (c .before .before .before .before .before .pre .0), c .before .before .loop .inv .1, c .before .before .loop .inv .2 .long)
 
--- src/lib.rt:57:9
 add-w : tie.Need-add-w Inv-loop μ-loop
 add-w c = omega (arith, room (c .before .before .before .before .before .before .before .before .args .c) (c .before .before .before .before .before .loop .i) (c .before .before .before .before .before .before .before .before .args .n) (length (now (c .before .before .before .before .before .before .before .before .args .s))) (c .before .before .before .before .loop-test .taken) (c .before .before .before .before .before .before .before .before .pre .0), c .before .before .before .before .before .loop .inv .1, c .before .before .before .before .before .before .before .before .good)
 
--- src/lib.rt:58:9
 add-i : tie.Need-add-i Inv-loop μ-loop
 add-i c = search needs
 
--- src/lib.rt:55:5
 loop-less : tie.Need-loop-less Inv-loop μ-loop
 loop-less c = search needs
 
--- src/lib.rt:55:5
 loop-again : tie.Need-loop-again Inv-loop μ-loop
 loop-again c = (omega arith, next-block (c .before .before .before .before .before .before .before .before .args .c) (c .before .before .before .before .before .loop .i) (c .before .before .before .before .before .loop .w) (c .before .before .before .before .before .loop .inv .1), block-more (c .before .before .before .before .before .before .before .before .args .c) (c .before .before .before .before .before .loop .i) (subKey (c .before .before .before .before .before .before .before .before .args .c) (keyAt (c .before .before .before .before .before .before .before .before .args .c) (now (c .before .before .before .before .before .before .before .before .args .ks)) (c .before .before .before .before .before .before .before .before .args .at))) (now (c .before .before .before .before .before .before .before .before .args .s)) (c .before .before .before .before .before .loop .s) (c .before .before .sub-block .last .0) (λ x j. (x + 2 ^ 64 - getD (now (c .before .before .before .before .before .before .before .before .args .ks)) (c .before .before .before .before .before .before .before .before .args .at + j) 0 % 2 ^ 64) % 2 ^ 64) (c .before .before .before .before .before .loop .w) (c .before .before .before .before .before .loop .inv .2) (room (c .before .before .before .before .before .before .before .before .args .c) (c .before .before .before .before .before .loop .i) (c .before .before .before .before .before .before .before .before .args .n) (length (now (c .before .before .before .before .before .before .before .before .args .s))) (c .before .before .before .before .loop-test .taken) (c .before .before .before .before .before .before .before .before .pre .0)) (c .before .before .before .before .before .loop .inv .1) (c .before .before .sub-block .ensures) (λ x j. below _) (subtracted (c .before .before .before .before .before .before .before .before .args .c) (now (c .before .before .before .before .before .before .before .before .args .ks)) (c .before .before .before .before .before .before .before .before .args .at)))
 
--- src/lib.rt:49:1
 same-length : tie.Need-same-length Inv-loop μ-loop
 same-length c = c .before .loop .inv .2 .long
 
--- src/lib.rt:49:1
 returns : tie.Need-returns Inv-loop μ-loop
 returns c = subst (λ m. Walked (c .before .before .before .before .args .c) m (subKey (c .before .before .before .before .args .c) (keyAt (c .before .before .before .before .args .c) (now (c .before .before .before .before .args .ks)) (c .before .before .before .before .args .at))) (now (c .before .before .before .before .args .s)) (c .before .loop .s)) (omega arith) (c .before .loop .inv .2)
 

@@ -12,47 +12,36 @@ use Rattle.judging.proofs.judge.Reads as judge-reads
 use Rattle.openings.proofs.open_call.Reads as open-call-reads
 use Rattle.sealings.proofs.seal_call.Reads as seal-call-reads
 
--- src/lib.rt:42:11
 judge-requires : tie.Need-judge-requires
 judge-requires c κs = search needs
 
--- src/lib.rt:43:25
 enum-known-m : tie.Need-enum-known-m
 enum-known-m c = search needs
 
--- src/lib.rt:44:22
 enum-known-s : tie.Need-enum-known-s
 enum-known-s c = search needs
 
--- src/lib.rt:45:16
 need-requires : tie.Need-need-requires
 need-requires c κs = search needs
 
--- src/lib.rt:46:17
 open-call-requires : tie.Need-open-call-requires
 open-call-requires c κs = (ways.lent-opening (c .before .before .before .before .before .before .before .before .before .before .before .args .f) (now (c .before .before .before .before .before .before .before .before .before .before .before .args .tab)) (now (c .before .before .before .before .before .before .before .before .before .before .before .args .back)) (now (c .before .before .before .before .before .before .before .before .before .before .before .args .p)) (now (c .before .before .before .before .before .before .before .before .before .before .before .args .u)) (sym (c .before .before .need .ensures) ∙ c .before .if1 .taken) (c .before .before .before .before .before .before .before .before .before .before .before .pre), (sym (c .before .before .need .ensures) ∙ c .before .if1 .taken), ways.cleared (callOf (c .before .before .before .before .before .before .before .before .before .before .before .args .f)) (c .before .before .before .before .before .before .before .before .before .before .before .args .n) (c .before .before .before .before .before .before .before .before .before .before .before .args .key .now) (c .before .before .before .before .before .before .before .before .before .before .before .args .side .now) (c .before .before .before .before .before .before .before .before .before .before .before .args .text .now) (c .before .before .before .before .before .before .before .before .before .before .before .args .out .now) (c .before .before .before .before .before .before .judge .result) (c .before .before .before .before .before .before .judge .ensures) (c .before .before .before .before .s .given .0 .0) (c .before .before .before .before .s .given .1))
 
--- src/lib.rt:46:17
 same-length : tie.Need-same-length
 same-length c = search needs
 
--- src/lib.rt:46:17
 returns : tie.Need-returns
 returns c = ways.told-made (callOf (c .before .before .before .before .before .before .before .before .before .before .before .before .before .before .args .f)) (c .before .before .before .before .before .before .before .before .before .before .before .before .before .before .args .n) (c .before .before .before .before .before .before .before .before .before .before .before .before .before .before .args .key .now) (c .before .before .before .before .before .before .before .before .before .before .before .before .before .before .args .side .now) (c .before .before .before .before .before .before .before .before .before .before .before .before .before .before .args .text .now) (c .before .before .before .before .before .before .before .before .before .before .before .before .before .before .args .out .now) (c .before .before .before .before .before .before .before .before .before .judge .result) (c .before .before .before .before .before .before .before .before .before .judge .ensures) (c .before .before .before .before .before .before .before .s .given .0 .0) _ (c .before .before .before .before .before .before .before .s .given .1) (c .before .before .open-call .ensures)
 
--- src/lib.rt:48:24
 seal-call-requires : tie.Need-seal-call-requires
 seal-call-requires c κs = (ways.lent-sealing (c .before .before .before .before .before .before .before .before .before .before .before .args .f) (now (c .before .before .before .before .before .before .before .before .before .before .before .args .tab)) (now (c .before .before .before .before .before .before .before .before .before .before .before .args .back)) (now (c .before .before .before .before .before .before .before .before .before .before .before .args .p)) (now (c .before .before .before .before .before .before .before .before .before .before .before .args .u)) (ways.need-either (c .before .before .before .before .before .before .before .before .before .before .before .args .f) (λ e. c .before .if1 .left (c .before .before .need .ensures ∙ e))) (c .before .before .before .before .before .before .before .before .before .before .before .pre), (ways.need-either (c .before .before .before .before .before .before .before .before .before .before .before .args .f) (λ e. c .before .if1 .left (c .before .before .need .ensures ∙ e))), ways.cleared (callOf (c .before .before .before .before .before .before .before .before .before .before .before .args .f)) (c .before .before .before .before .before .before .before .before .before .before .before .args .n) (c .before .before .before .before .before .before .before .before .before .before .before .args .key .now) (c .before .before .before .before .before .before .before .before .before .before .before .args .side .now) (c .before .before .before .before .before .before .before .before .before .before .before .args .text .now) (c .before .before .before .before .before .before .before .before .before .before .before .args .out .now) (c .before .before .before .before .before .before .judge .result) (c .before .before .before .before .before .before .judge .ensures) (c .before .before .before .before .s .given .0 .0) (c .before .before .before .before .s .given .1))
 
--- src/lib.rt:27:1
 returns-2 : tie.Need-returns-2
 returns-2 c = ways.told-refused (callOf (c .before .before .before .before .before .before .before .before .args .f)) (c .before .before .before .before .before .before .before .before .args .n) (c .before .before .before .before .before .before .before .before .args .key .now) (c .before .before .before .before .before .before .before .before .args .side .now) (c .before .before .before .before .before .before .before .before .args .text .now) (c .before .before .before .before .before .before .before .before .args .out .now) (c .before .before .before .judge .result) (c .before .before .before .judge .ensures) (c .before .m .given .0 .0) (c .before .m .given .1)
 
--- src/lib.rt:27:1
 same-length-2 : tie.Need-same-length-2
 same-length-2 c = search needs
 
--- src/lib.rt:27:1
 returns-3 : tie.Need-returns-3
 returns-3 c = ways.told-made (callOf (c .before .before .before .before .before .before .before .before .before .before .before .before .before .before .args .f)) (c .before .before .before .before .before .before .before .before .before .before .before .before .before .before .args .n) (c .before .before .before .before .before .before .before .before .before .before .before .before .before .before .args .key .now) (c .before .before .before .before .before .before .before .before .before .before .before .before .before .before .args .side .now) (c .before .before .before .before .before .before .before .before .before .before .before .before .before .before .args .text .now) (c .before .before .before .before .before .before .before .before .before .before .before .before .before .before .args .out .now) (c .before .before .before .before .before .before .before .before .before .judge .result) (c .before .before .before .before .before .before .before .before .before .judge .ensures) (c .before .before .before .before .before .before .before .s .given .0 .0) _ (c .before .before .before .before .before .before .before .s .given .1) (c .before .before .seal-call .ensures)
 

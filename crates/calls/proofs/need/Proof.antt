@@ -7,19 +7,15 @@ use Rattle.calls.proofs.need.Tie as tie
 use Rattle.calls.proofs.need.Reads as reads
 use Rattle.calls.proofs.need.Lts as lts
 
--- src/lib.rt:15:9
 returns : tie.Need-returns
 returns c = ways.need-2 (c .before .args .f) (_⊎_.inl (omega arith))
 
--- src/lib.rt:18:9
 returns-2 : tie.Need-returns-2
 returns-2 c = ways.need-2 (c .before .before .args .f) (_⊎_.inr (_⊎_.inl (omega arith)))
 
--- src/lib.rt:21:9
 returns-3 : tie.Need-returns-3
 returns-3 c = ways.need-2 (c .before .before .before .args .f) (_⊎_.inr (_⊎_.inr (omega arith)))
 
--- src/lib.rt:11:1
 returns-4 : tie.Need-returns-4
 returns-4 c = ways.need-1 (c .before .before .before .args .f) (c .before .before .if1 .left) (c .before .if2 .left) (c .if3 .left)
 

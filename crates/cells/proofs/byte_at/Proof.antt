@@ -17,27 +17,21 @@ use Rattle.cells.proofs.byte_at.Tie as tie
 use Rattle.cells.proofs.byte_at.Reads as reads
 use Rattle.cells.proofs.byte_at.Lts as lts
 
--- src/lib.rt:101:13
 mul-g : tie.Need-mul-g
 mul-g c = search needs
 
--- src/lib.rt:101:13
 shared-slice-read-g : tie.Need-shared-slice-read-g
 shared-slice-read-g c = search needs
 
--- src/lib.rt:103:16
 cast-result : tie.Need-cast-result
 cast-result c = omega arith
 
--- src/lib.rt:103:9
 returns : tie.Need-returns
 returns c = even-byte (now (c .before .before .args .s)) (c .before .before .args .k) (λ i. omega (arith, c .before .shared-slice-known .given i)) (c .if1 .taken)
 
--- src/lib.rt:105:5
 cast-result-2 : tie.Need-cast-result-2
 cast-result-2 c = omega (arith, c .before .shared-slice-known .given (c .before .before .args .k / 2))
 
--- src/lib.rt:97:1
 returns-2 : tie.Need-returns-2
 returns-2 c = odd-byte (now (c .before .before .args .s)) (c .before .before .args .k) (λ i. omega (arith, c .before .shared-slice-known .given i)) (c .if1 .left)
 

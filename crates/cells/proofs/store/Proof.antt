@@ -25,47 +25,36 @@ Inv-loop s w o₀ at m j₀ o j = (j ≤ m) × Run (byte s w) at o₀ (8 * j) o
 abbrev μ-loop : tie.MeasureT-loop
 μ-loop s w o₀ at m j₀ o j = m - j
 
--- src/lib.rt:78:5
 loop-holds : tie.Need-loop-holds Inv-loop μ-loop
 loop-holds c = (omega arith, run-none (byte (now (c .before .before .args .s)) (c .before .before .args .w)) (c .before .before .args .at) (now (c .before .before .args .o)))
 
--- src/lib.rt:79:27
 mul-put-bytes : tie.Need-mul-put-bytes Inv-loop μ-loop
 mul-put-bytes c = search needs
 
--- src/lib.rt:79:22
 add-put-bytes : tie.Need-add-put-bytes Inv-loop μ-loop
 add-put-bytes c = search needs
 
--- src/lib.rt:79:52
 add-word-at : tie.Need-add-word-at Inv-loop μ-loop
 add-word-at c = search needs
 
--- src/lib.rt:79:34
 word-at-requires : tie.Need-word-at-requires Inv-loop μ-loop
 word-at-requires c κs = search needs
 
--- src/lib.rt:79:9
 put-bytes-requires : tie.Need-put-bytes-requires Inv-loop μ-loop
 put-bytes-requires c κs = omega (arith, c .before .before .before .loop .inv .1 .long, c .before .before .before .before .before .before .pre)
 
--- src/lib.rt:80:9
 add-j : tie.Need-add-j Inv-loop μ-loop
 add-j c = search needs
 
--- src/lib.rt:78:5
 loop-less : tie.Need-loop-less Inv-loop μ-loop
 loop-less c = search needs
 
--- src/lib.rt:78:5
 loop-again : tie.Need-loop-again Inv-loop μ-loop
 loop-again c = (omega arith, subst (λ n. Run (byte (now (c .before .before .before .before .before .before .before .before .before .args .s)) (c .before .before .before .before .before .before .before .before .before .args .w)) (c .before .before .before .before .before .before .before .before .before .args .at) (now (c .before .before .before .before .before .before .before .before .before .args .o)) n (c .before .before .put-bytes .last .0)) (eight-more (c .before .before .before .before .before .before .loop .j)) (run-sets (byte (now (c .before .before .before .before .before .before .before .before .before .args .s)) (c .before .before .before .before .before .before .before .before .before .args .w)) (c .before .before .before .before .before .before .before .before .before .args .at) (now (c .before .before .before .before .before .before .before .before .before .args .o)) (8 * c .before .before .before .before .before .before .loop .j) 8 (c .before .before .before .before .before .before .loop .o) (c .before .before .put-bytes .last .0) _ (c .before .before .before .before .before .before .loop .inv .1) (omega (arith, c .before .before .before .before .before .before .before .before .before .pre)) (length-tab 8 _) (eight-stored (now (c .before .before .before .before .before .before .before .before .before .args .s)) (c .before .before .before .before .before .before .before .before .before .args .w) (c .before .before .before .before .before .before .loop .j) _ (c .before .before .before .word-at .ensures)) (c .before .before .put-bytes .ensures)))
 
--- src/lib.rt:73:1
 same-length : tie.Need-same-length Inv-loop μ-loop
 same-length c = c .before .loop .inv .1 .long
 
--- src/lib.rt:73:1
 returns : tie.Need-returns Inv-loop μ-loop
 returns c = run-whole (byte (now (c .before .before .before .before .args .s)) (c .before .before .before .before .args .w)) (c .before .before .before .before .args .at) (now (c .before .before .before .before .args .o)) (8 * c .before .before .before .before .args .m) (c .before .loop .o) (subst (λ n. Run (byte (now (c .before .before .before .before .args .s)) (c .before .before .before .before .args .w)) (c .before .before .before .before .args .at) (now (c .before .before .before .before .args .o)) n (c .before .loop .o)) (omega arith) (c .before .loop .inv .1))
 

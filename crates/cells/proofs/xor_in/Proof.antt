@@ -27,60 +27,46 @@ Inv-loop s₀ w b at m j₀ s j = (j ≤ m) × (s ≡ putWords s₀ w j (λ j. x
 abbrev μ-loop : tie.MeasureT-loop
 μ-loop s₀ w b at m j₀ s j = m - j
 
--- src/lib.rt:65:5
 loop-holds : tie.Need-loop-holds Inv-loop μ-loop
 unfolding putWords
 loop-holds c = (omega arith, refl)
 
--- src/lib.rt:66:35
 add-word-at : tie.Need-add-word-at Inv-loop μ-loop
 add-word-at c = search needs
 
--- src/lib.rt:66:13
 word-at-requires : tie.Need-word-at-requires Inv-loop μ-loop
 word-at-requires c κs = omega (arith, ap length (c .before .before .loop .inv .1), length-puts (now (c .before .before .before .before .before .args .s)) (c .before .before .before .before .before .args .w) (c .before .before .loop .j) (λ j. xor (wordAt (now (c .before .before .before .before .before .args .s)) (c .before .before .before .before .before .args .w + j)) (pack 8 (λ i. getD (now (c .before .before .before .before .before .args .b)) (c .before .before .before .before .before .args .at + 8 * j + i) 0))), c .before .before .before .before .before .pre)
 
--- src/lib.rt:67:28
 add-put-word : tie.Need-add-put-word Inv-loop μ-loop
 add-put-word c = search needs
 
--- src/lib.rt:67:66
 mul-bytes-at : tie.Need-mul-bytes-at Inv-loop μ-loop
 mul-bytes-at c = search needs
 
--- src/lib.rt:67:61
 add-bytes-at : tie.Need-add-bytes-at Inv-loop μ-loop
 add-bytes-at c = search needs
 
--- src/lib.rt:67:49
 bytes-at-requires : tie.Need-bytes-at-requires Inv-loop μ-loop
 bytes-at-requires c κs = search needs
 
--- src/lib.rt:67:35
 x64-requires : tie.Need-x64-requires Inv-loop μ-loop
 x64-requires c κs = search needs
 
--- src/lib.rt:67:9
 put-word-requires : tie.Need-put-word-requires Inv-loop μ-loop
 put-word-requires c κs = omega (arith, ap length (c .before .before .before .before .before .before .loop .inv .1), length-puts (now (c .before .before .before .before .before .before .before .before .before .args .s)) (c .before .before .before .before .before .before .before .before .before .args .w) (c .before .before .before .before .before .before .loop .j) (λ j. xor (wordAt (now (c .before .before .before .before .before .before .before .before .before .args .s)) (c .before .before .before .before .before .before .before .before .before .args .w + j)) (pack 8 (λ i. getD (now (c .before .before .before .before .before .before .before .before .before .args .b)) (c .before .before .before .before .before .before .before .before .before .args .at + 8 * j + i) 0))), c .before .before .before .before .before .before .before .before .before .pre)
 
--- src/lib.rt:68:9
 add-j : tie.Need-add-j Inv-loop μ-loop
 add-j c = search needs
 
--- src/lib.rt:65:5
 loop-less : tie.Need-loop-less Inv-loop μ-loop
 loop-less c = search needs
 
--- src/lib.rt:65:5
 loop-again : tie.Need-loop-again Inv-loop μ-loop
 loop-again c = (omega arith, puts-more (now (c .before .before .before .before .before .before .before .before .before .before .before .before .args .s)) (c .before .before .before .before .before .before .before .before .before .loop .s) (c .before .before .put-word .last .0) (c .before .before .before .before .before .before .before .before .before .before .before .before .args .w) (c .before .before .before .before .before .before .before .before .before .loop .j) (λ j. xor (wordAt (now (c .before .before .before .before .before .before .before .before .before .before .before .before .args .s)) (c .before .before .before .before .before .before .before .before .before .before .before .before .args .w + j)) (pack 8 (λ i. getD (now (c .before .before .before .before .before .before .before .before .before .before .before .before .args .b)) (c .before .before .before .before .before .before .before .before .before .before .before .before .args .at + 8 * j + i) 0))) _ (c .before .before .before .before .before .before .before .before .before .loop .inv .1) (c .before .before .put-word .ensures) (c .before .before .before .x64 .ensures ∙ ap₂ xor (c .before .before .before .before .before .before .word-at .ensures ∙ puts-next (now (c .before .before .before .before .before .before .before .before .before .before .before .before .args .s)) (c .before .before .before .before .before .before .before .before .before .loop .s) (c .before .before .before .before .before .before .before .before .before .before .before .before .args .w) (c .before .before .before .before .before .before .before .before .before .loop .j) (λ j. xor (wordAt (now (c .before .before .before .before .before .before .before .before .before .before .before .before .args .s)) (c .before .before .before .before .before .before .before .before .before .before .before .before .args .w + j)) (pack 8 (λ i. getD (now (c .before .before .before .before .before .before .before .before .before .before .before .before .args .b)) (c .before .before .before .before .before .before .before .before .before .before .before .before .args .at + 8 * j + i) 0))) (c .before .before .before .before .before .before .before .before .before .loop .inv .1)) (c .before .before .before .before .bytes-at .ensures)))
 
--- src/lib.rt:60:1
 same-length : tie.Need-same-length Inv-loop μ-loop
 same-length c = ap length (c .before .loop .inv .1) ∙ length-puts (now (c .before .before .before .before .args .s)) (c .before .before .before .before .args .w) (c .before .loop .j) (λ j. xor (wordAt (now (c .before .before .before .before .args .s)) (c .before .before .before .before .args .w + j)) (pack 8 (λ i. getD (now (c .before .before .before .before .args .b)) (c .before .before .before .before .args .at + 8 * j + i) 0)))
 
--- src/lib.rt:60:1
 returns : tie.Need-returns Inv-loop μ-loop
 returns c = c .before .loop .inv .1 ∙ ap (λ n. putWords (now (c .before .before .before .before .args .s)) (c .before .before .before .before .args .w) n (λ j. xor (wordAt (now (c .before .before .before .before .args .s)) (c .before .before .before .before .args .w + j)) (pack 8 (λ i. getD (now (c .before .before .before .before .args .b)) (c .before .before .before .before .args .at + 8 * j + i) 0)))) (omega arith)
 

@@ -27,63 +27,48 @@ Inv-loop s w b o₀ at m j₀ o j = (j ≤ m) × Run (λ n. xor (getD b (at + n)
 abbrev μ-loop : tie.MeasureT-loop
 μ-loop s w b o₀ at m j₀ o j = m - j
 
--- src/lib.rt:90:5
 loop-holds : tie.Need-loop-holds Inv-loop μ-loop
 loop-holds c = (omega arith, run-none (λ n. xor (getD (now (c .before .before .before .args .b)) ((c .before .before .before .args .at) + n) 0) (byte (now (c .before .before .before .args .s)) (c .before .before .before .args .w) n)) (c .before .before .before .args .at) (now (c .before .before .before .args .o)))
 
--- src/lib.rt:91:27
 mul-put-bytes : tie.Need-mul-put-bytes Inv-loop μ-loop
 mul-put-bytes c = search needs
 
--- src/lib.rt:91:22
 add-put-bytes : tie.Need-add-put-bytes Inv-loop μ-loop
 add-put-bytes c = search needs
 
--- src/lib.rt:91:62
 mul-bytes-at : tie.Need-mul-bytes-at Inv-loop μ-loop
 mul-bytes-at c = search needs
 
--- src/lib.rt:91:57
 add-bytes-at : tie.Need-add-bytes-at Inv-loop μ-loop
 add-bytes-at c = search needs
 
--- src/lib.rt:91:45
 bytes-at-requires : tie.Need-bytes-at-requires Inv-loop μ-loop
 bytes-at-requires c κs = search needs
 
--- src/lib.rt:91:88
 add-word-at : tie.Need-add-word-at Inv-loop μ-loop
 add-word-at c = search needs
 
--- src/lib.rt:91:70
 word-at-requires : tie.Need-word-at-requires Inv-loop μ-loop
 word-at-requires c κs = search needs
 
--- src/lib.rt:91:34
 x64-requires : tie.Need-x64-requires Inv-loop μ-loop
 x64-requires c κs = search needs
 
--- src/lib.rt:91:9
 put-bytes-requires : tie.Need-put-bytes-requires Inv-loop μ-loop
 put-bytes-requires c κs = omega (arith, c .before .before .before .before .before .loop .inv .1 .long, c .before .before .before .before .before .before .before .before .before .pre)
 
--- src/lib.rt:92:9
 add-j : tie.Need-add-j Inv-loop μ-loop
 add-j c = search needs
 
--- src/lib.rt:90:5
 loop-less : tie.Need-loop-less Inv-loop μ-loop
 loop-less c = search needs
 
--- src/lib.rt:90:5
 loop-again : tie.Need-loop-again Inv-loop μ-loop
 loop-again c = (omega arith, subst (λ n. Run (λ n. xor (getD (now (c .before .before .before .before .before .before .before .before .before .before .before .before .args .b)) ((c .before .before .before .before .before .before .before .before .before .before .before .before .args .at) + n) 0) (byte (now (c .before .before .before .before .before .before .before .before .before .before .before .before .args .s)) (c .before .before .before .before .before .before .before .before .before .before .before .before .args .w) n)) (c .before .before .before .before .before .before .before .before .before .before .before .before .args .at) (now (c .before .before .before .before .before .before .before .before .before .before .before .before .args .o)) n (c .before .before .put-bytes .last .0)) (eight-more (c .before .before .before .before .before .before .before .before .loop .j)) (run-sets (λ n. xor (getD (now (c .before .before .before .before .before .before .before .before .before .before .before .before .args .b)) ((c .before .before .before .before .before .before .before .before .before .before .before .before .args .at) + n) 0) (byte (now (c .before .before .before .before .before .before .before .before .before .before .before .before .args .s)) (c .before .before .before .before .before .before .before .before .before .before .before .before .args .w) n)) (c .before .before .before .before .before .before .before .before .before .before .before .before .args .at) (now (c .before .before .before .before .before .before .before .before .before .before .before .before .args .o)) (8 * c .before .before .before .before .before .before .before .before .loop .j) 8 (c .before .before .before .before .before .before .before .before .loop .o) (c .before .before .put-bytes .last .0) _ (c .before .before .before .before .before .before .before .before .loop .inv .1) (omega (arith, c .before .before .before .before .before .before .before .before .before .before .before .before .pre)) (length-tab 8 _) (eight-xored (now (c .before .before .before .before .before .before .before .before .before .before .before .before .args .s)) (now (c .before .before .before .before .before .before .before .before .before .before .before .before .args .b)) (c .before .before .before .before .before .before .before .before .before .before .before .before .args .w) (c .before .before .before .before .before .before .before .before .before .before .before .before .args .at) (c .before .before .before .before .before .before .before .before .loop .j) _ _ _ (λ n. omega (arith, c .before .before .before .before .before .before .before .before .before .before .shared-slice-known2 .given n)) (c .before .before .before .before .before .bytes-at .ensures) (c .before .before .before .before .word-at .ensures) (c .before .before .before .x64 .ensures)) (c .before .before .put-bytes .ensures)))
 
--- src/lib.rt:85:1
 same-length : tie.Need-same-length Inv-loop μ-loop
 same-length c = c .before .loop .inv .1 .long
 
--- src/lib.rt:85:1
 returns : tie.Need-returns Inv-loop μ-loop
 returns c = run-whole (λ n. xor (getD (now (c .before .before .before .before .before .args .b)) ((c .before .before .before .before .before .args .at) + n) 0) (byte (now (c .before .before .before .before .before .args .s)) (c .before .before .before .before .before .args .w) n)) (c .before .before .before .before .before .args .at) (now (c .before .before .before .before .before .args .o)) (8 * c .before .before .before .before .before .args .m) (c .before .loop .o) (subst (λ n. Run (λ n. xor (getD (now (c .before .before .before .before .before .args .b)) ((c .before .before .before .before .before .args .at) + n) 0) (byte (now (c .before .before .before .before .before .args .s)) (c .before .before .before .before .before .args .w) n)) (c .before .before .before .before .before .args .at) (now (c .before .before .before .before .before .args .o)) n (c .before .loop .o)) (omega arith) (c .before .loop .inv .1))
 

@@ -25,55 +25,42 @@ Inv-loop s k b o₀ at n i₀ o i = (i ≤ n) × Run (λ i. xor (getD b (at + i)
 abbrev μ-loop : tie.MeasureT-loop
 μ-loop s k b o₀ at n i₀ o i = n - i
 
--- src/lib.rt:114:5
 loop-holds : tie.Need-loop-holds Inv-loop μ-loop
 loop-holds c = (omega arith, run-none (λ i. xor (getD (now (c .before .before .before .args .b)) ((c .before .before .before .args .at) + i) 0) (byteOf (wordAt (now (c .before .before .before .args .s)) ((c .before .before .before .args .k + i) / 8)) ((c .before .before .before .args .k + i) % 8))) (c .before .before .before .args .at) (now (c .before .before .before .args .o)))
 
--- src/lib.rt:115:33
 add-x8 : tie.Need-add-x8 Inv-loop μ-loop
 add-x8 c = search needs
 
--- src/lib.rt:115:31
 shared-slice-read-x8 : tie.Need-shared-slice-read-x8 Inv-loop μ-loop
 shared-slice-read-x8 c = search needs
 
--- src/lib.rt:115:53
 add-byte-at : tie.Need-add-byte-at Inv-loop μ-loop
 add-byte-at c = search needs
 
--- src/lib.rt:115:42
 byte-at-requires : tie.Need-byte-at-requires Inv-loop μ-loop
 byte-at-requires c κs = omega (arith, c .before .before .before .before .before .before .pre)
 
--- src/lib.rt:115:21
 x8-requires : tie.Need-x8-requires Inv-loop μ-loop
 x8-requires c κs = search needs
 
--- src/lib.rt:115:11
 add-o : tie.Need-add-o Inv-loop μ-loop
 add-o c = search needs
 
--- src/lib.rt:115:9
 slice-write-o : tie.Need-slice-write-o Inv-loop μ-loop
 slice-write-o c = omega (arith, c .before .before .before .before .loop .inv .1 .long, c .before .before .before .before .before .before .before .before .pre)
 
--- src/lib.rt:116:9
 add-i : tie.Need-add-i Inv-loop μ-loop
 add-i c = search needs
 
--- src/lib.rt:114:5
 loop-less : tie.Need-loop-less Inv-loop μ-loop
 loop-less c = search needs
 
--- src/lib.rt:114:5
 loop-again : tie.Need-loop-again Inv-loop μ-loop
 loop-again c = (omega arith, run-more (λ i. xor (getD (now (c .before .before .before .before .before .before .before .before .args .b)) ((c .before .before .before .before .before .before .before .before .args .at) + i) 0) (byteOf (wordAt (now (c .before .before .before .before .before .before .before .before .args .s)) ((c .before .before .before .before .before .before .before .before .args .k + i) / 8)) ((c .before .before .before .before .before .before .before .before .args .k + i) % 8))) (c .before .before .before .before .before .before .before .before .args .at) (now (c .before .before .before .before .before .before .before .before .args .o)) (c .before .before .before .before .loop .i) (c .before .before .before .before .loop .o) _ (c .before .before .before .before .loop .inv .1) (omega (arith, c .before .before .before .before .before .before .before .before .pre)) (c .x8 .ensures ∙ ap (xor (getD (now (c .before .before .before .before .before .before .before .before .args .b)) ((c .before .before .before .before .before .before .before .before .args .at) + c .before .before .before .before .loop .i) 0)) (c .before .byte-at .ensures)))
 
--- src/lib.rt:109:1
 same-length : tie.Need-same-length Inv-loop μ-loop
 same-length c = c .before .loop .inv .1 .long
 
--- src/lib.rt:109:1
 returns : tie.Need-returns Inv-loop μ-loop
 returns c = run-whole (λ i. xor (getD (now (c .before .before .before .before .before .args .b)) ((c .before .before .before .before .before .args .at) + i) 0) (byteOf (wordAt (now (c .before .before .before .before .before .args .s)) ((c .before .before .before .before .before .args .k + i) / 8)) ((c .before .before .before .before .before .args .k + i) % 8))) (c .before .before .before .before .before .args .at) (now (c .before .before .before .before .before .args .o)) (c .before .before .before .before .before .args .n) (c .before .loop .o) (subst (λ n. Run (λ i. xor (getD (now (c .before .before .before .before .before .args .b)) ((c .before .before .before .before .before .args .at) + i) 0) (byteOf (wordAt (now (c .before .before .before .before .before .args .s)) ((c .before .before .before .before .before .args .k + i) / 8)) ((c .before .before .before .before .before .args .k + i) % 8))) (c .before .before .before .before .before .args .at) (now (c .before .before .before .before .before .args .o)) n (c .before .loop .o)) (omega arith) (c .before .loop .inv .1))
 

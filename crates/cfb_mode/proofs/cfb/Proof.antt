@@ -11,63 +11,48 @@ use borrow.Author.Needs.{needs}
 use Rattle.cfb_mode.proofs.cfb.Statement.{statement}
 use Rattle.cfb_mode.proofs.cfb.Tie as tie
 
--- src/lib.rt:196:13
 mul-b : tie.Need-mul-b
 mul-b c = search needs
 
--- src/lib.rt:197:13
 div-q : tie.Need-div-q
 div-q c = omega (arith, width-pos (c .before .before .before .before .args .c) (c .before .before .before .before .pre .1), width-le (c .before .before .before .before .args .c) (c .before .before .before .before .pre .1))
 
--- src/lib.rt:198:14
 mul-at : tie.Need-mul-at
 mul-at c = omega (arith, widths.whole-le (length (now (c .before .before .before .before .args .text))) (8 * (c .before .before .before .before .args .c)), c .before .before .before .before .pre .6)
 
--- src/lib.rt:200:40
 slice-aggregate-cfb-whole : tie.Need-slice-aggregate-cfb-whole
 slice-aggregate-cfb-whole c = search needs
 
--- src/lib.rt:200:5
 cfb-whole-requires : tie.Need-cfb-whole-requires
 cfb-whole-requires c κs = (c .before .before .before .before .before .before .pre .0, c .before .before .before .before .before .before .pre .1, c .before .before .before .before .before .before .pre .2, c .before .before .before .before .before .before .pre .3, c .before .before .before .before .before .before .pre .4, c .before .before .before .before .before .before .pre .5, omega (arith, width-pos (c .before .before .before .before .before .before .args .c) (c .before .before .before .before .before .before .pre .1), width-le (c .before .before .before .before .before .before .args .c) (c .before .before .before .before .before .before .pre .1)), widths.whole-le (length (now (c .before .before .before .before .before .before .args .text))) (8 * (c .before .before .before .before .before .before .args .c)), c .before .before .before .before .before .before .pre .7)
 
--- src/lib.rt:202:9
 same-length : tie.Need-same-length
 same-length c = search needs
 
--- src/lib.rt:202:9
 returns : tie.Need-returns
 returns c = ends.cfb-whole-is (c .before .before .before .before .before .before .before .before .before .before .before .args .c) (c .before .before .before .before .before .before .before .before .before .before .before .args .t) (keysOf (c .before .before .before .before .before .before .before .before .before .before .before .args .c) (now (c .before .before .before .before .before .before .before .before .before .before .before .args .ks))) (now (c .before .before .before .before .before .before .before .before .before .before .before .args .iv)) (now (c .before .before .before .before .before .before .before .before .before .before .before .args .text)) ((length (now (c .before .before .before .before .before .before .before .before .before .before .before .args .text))) / (8 * (c .before .before .before .before .before .before .before .before .before .before .before .args .c)) * (8 * (c .before .before .before .before .before .before .before .before .before .before .before .args .c))) (now (c .before .before .before .before .before .before .before .before .before .before .before .args .out)) (c .before .before .before .before .cfb-whole .last .1 .1 .1 .1 .1 .1 .1 .0) (c .if1 .taken) (c .before .before .before .before .cfb-whole .ensures .1)
 
--- src/lib.rt:204:13
 sub-r : tie.Need-sub-r
 sub-r c = omega (arith, widths.whole-le (length (now (c .before .before .before .before .before .before .before .before .before .before .before .args .text))) (8 * (c .before .before .before .before .before .before .before .before .before .before .before .args .c)))
 
--- src/lib.rt:205:34
 slice-aggregate-seal-blocks : tie.Need-slice-aggregate-seal-blocks
 slice-aggregate-seal-blocks c = search needs
 
--- src/lib.rt:205:5
 seal-blocks-requires : tie.Need-seal-blocks-requires
 seal-blocks-requires c κs = (c .before .before .before .before .before .before .before .before .before .before .before .before .pre .0, c .before .before .before .before .before .before .before .before .before .before .before .before .pre .1, c .before .before .before .before .before .before .before .before .before .before .before .before .pre .2, omega (arith, width-pos (c .before .before .before .before .before .before .before .before .before .before .before .before .args .c) (c .before .before .before .before .before .before .before .before .before .before .before .before .pre .1), width-le (c .before .before .before .before .before .before .before .before .before .before .before .before .args .c) (c .before .before .before .before .before .before .before .before .before .before .before .before .pre .1), c .before .before .before .before .before .cfb-whole .kept .1 .1 .1 .1 .1 .1 .0), c .before .before .before .before .before .before .before .before .before .before .before .before .pre .4, c .before .before .before .before .before .before .before .before .before .before .before .before .pre .3)
 
--- src/lib.rt:206:21
 slice-aggregate-xor-rest : tie.Need-slice-aggregate-xor-rest
 slice-aggregate-xor-rest c = search needs
 
--- src/lib.rt:206:25
 sub-xor-rest : tie.Need-sub-xor-rest
 sub-xor-rest c = omega (arith, widths.rest-lt (length (now (c .before .before .before .before .before .before .before .before .before .before .before .before .before .before .before .args .text))) (8 * (c .before .before .before .before .before .before .before .before .before .before .before .before .before .before .before .args .c)) (omega (arith, width-pos (c .before .before .before .before .before .before .before .before .before .before .before .before .before .before .before .args .c) (c .before .before .before .before .before .before .before .before .before .before .before .before .before .before .before .pre .1), width-le (c .before .before .before .before .before .before .before .before .before .before .before .before .before .before .before .args .c) (c .before .before .before .before .before .before .before .before .before .before .before .before .before .before .before .pre .1))))
 
--- src/lib.rt:206:5
 xor-rest-requires : tie.Need-xor-rest-requires
 xor-rest-requires c κs = (omega (arith, width-pos (c .before .before .before .before .before .before .before .before .before .before .before .before .before .before .before .before .args .c) (c .before .before .before .before .before .before .before .before .before .before .before .before .before .before .before .before .pre .1), width-le (c .before .before .before .before .before .before .before .before .before .before .before .before .before .before .before .before .args .c) (c .before .before .before .before .before .before .before .before .before .before .before .before .before .before .before .before .pre .1), c .before .before .before .seal-blocks .kept .1 .0, c .before .before .before .before .before .before .before .before .before .cfb-whole .kept .1 .1 .1 .1 .1 .1 .0, widths.rest-lt (length (now (c .before .before .before .before .before .before .before .before .before .before .before .before .before .before .before .before .args .text))) (8 * (c .before .before .before .before .before .before .before .before .before .before .before .before .before .before .before .before .args .c)) (omega (arith, width-pos (c .before .before .before .before .before .before .before .before .before .before .before .before .before .before .before .before .args .c) (c .before .before .before .before .before .before .before .before .before .before .before .before .before .before .before .before .pre .1), width-le (c .before .before .before .before .before .before .before .before .before .before .before .before .before .before .before .before .args .c) (c .before .before .before .before .before .before .before .before .before .before .before .before .before .before .before .before .pre .1)))), omega (arith, c .before .before .before .seal-blocks .kept .1 .0, c .before .before .before .before .before .before .before .before .before .cfb-whole .kept .1 .1 .1 .1 .1 .1 .0), omega (arith, widths.whole-le (length (now (c .before .before .before .before .before .before .before .before .before .before .before .before .before .before .before .before .args .text))) (8 * (c .before .before .before .before .before .before .before .before .before .before .before .before .before .before .before .before .args .c))), omega (arith, widths.whole-le (length (now (c .before .before .before .before .before .before .before .before .before .before .before .before .before .before .before .before .args .text))) (8 * (c .before .before .before .before .before .before .before .before .before .before .before .before .before .before .before .before .args .c)), c .before .before .before .before .before .before .before .before .before .before .before .before .before .before .before .before .pre .7, c .before .before .before .before .before .before .before .before .before .cfb-whole .ensures .1 .long))
 
--- src/lib.rt:191:1
 same-length-2 : tie.Need-same-length-2
 same-length-2 c = search needs
 
--- src/lib.rt:191:1
 returns-2 : tie.Need-returns-2
 returns-2 c = ends.cfb-is (c .before .before .before .before .before .before .before .before .before .before .before .before .before .before .before .before .before .before .before .args .c) (c .before .before .before .before .before .before .before .before .before .before .before .before .before .before .before .before .before .before .before .args .t) (keysOf (c .before .before .before .before .before .before .before .before .before .before .before .before .before .before .before .before .before .before .before .args .c) (now (c .before .before .before .before .before .before .before .before .before .before .before .before .before .before .before .before .before .before .before .args .ks))) (now (c .before .before .before .before .before .before .before .before .before .before .before .before .before .before .before .before .before .before .before .args .iv)) (now (c .before .before .before .before .before .before .before .before .before .before .before .before .before .before .before .before .before .before .before .args .text)) ((length (now (c .before .before .before .before .before .before .before .before .before .before .before .before .before .before .before .before .before .before .before .args .text))) / (8 * (c .before .before .before .before .before .before .before .before .before .before .before .before .before .before .before .before .before .before .before .args .c))) (c .before .before .before .before .before .before .before .before .before .before .before .before .cfb-whole .last .1 .1 .1 .1 .1 .1 .0) (c .before .before .before .before .before .before .seal-blocks .last .1 .0) (now (c .before .before .before .before .before .before .before .before .before .before .before .before .before .before .before .before .before .before .before .args .out)) (c .before .before .before .before .before .before .before .before .before .before .before .before .cfb-whole .last .1 .1 .1 .1 .1 .1 .1 .0) (c .before .before .xor-rest .last .1 .1 .1 .0) (c .before .before .before .before .before .before .before .before .before .before .before .before .before .before .before .before .before .before .before .pre .1) refl (c .before .before .before .before .before .before .before .before .before .before .before .before .before .before .before .before .before .before .before .pre .7) (c .before .before .before .before .before .before .before .before .before .before .before .before .cfb-whole .ensures .0) (c .before .before .before .before .before .before .seal-blocks .ensures) (c .before .before .before .before .before .before .before .before .before .before .before .before .cfb-whole .ensures .1) (c .before .before .xor-rest .ensures)
 

@@ -15,35 +15,27 @@ use Rattle.one_block.proofs.give_out.Reads as give-out-reads
 use Rattle.one_block.proofs.seal_first.Reads as seal-first-reads
 use Rattle.one_block.proofs.take_in.Reads as take-in-reads
 
--- src/lib.rt:20:24
 slice-aggregate-take-in : tie.Need-slice-aggregate-take-in
 slice-aggregate-take-in c = search needs
 
--- src/lib.rt:20:5
 take-in-requires : tie.Need-take-in-requires
 take-in-requires c κs = (omega (arith, width-le (c .before .before .before .before .args .c) (c .before .before .before .before .pre .1)), omega (arith, c .before .before .before .before .pre .5))
 
--- src/lib.rt:21:32
 slice-aggregate-seal-first : tie.Need-slice-aggregate-seal-first
 slice-aggregate-seal-first c = search needs
 
--- src/lib.rt:21:5
 seal-first-requires : tie.Need-seal-first-requires
 seal-first-requires c κs = (c .before .before .before .before .before .before .before .pre .0, c .before .before .before .before .before .before .before .pre .1, c .before .before .before .before .before .before .before .pre .2, omega (arith, width-le (c .before .before .before .before .before .before .before .args .c) (c .before .before .before .before .before .before .before .pre .1), c .before .before .take-in .kept .0), c .before .before .before .before .before .before .before .pre .4, c .before .before .before .before .before .before .before .pre .3)
 
--- src/lib.rt:22:25
 slice-aggregate-give-out : tie.Need-slice-aggregate-give-out
 slice-aggregate-give-out c = search needs
 
--- src/lib.rt:22:5
 give-out-requires : tie.Need-give-out-requires
 give-out-requires c κs = (omega (arith, width-le (c .before .before .before .before .before .before .before .before .before .before .before .args .c) (c .before .before .before .before .before .before .before .before .before .before .before .pre .1), c .before .before .before .before .before .before .take-in .kept .0, c .before .before .before .seal-first .kept .1 .0), omega (arith, c .before .before .before .before .before .before .before .before .before .before .before .pre .6))
 
--- src/lib.rt:15:1
 same-length : tie.Need-same-length
 same-length c = search needs
 
--- src/lib.rt:15:1
 returns : tie.Need-returns
 returns c = given (8 * c .before .before .before .before .before .before .before .before .before .before .before .before .before .before .args .c) _ _ (now (c .before .before .before .before .before .before .before .before .before .before .before .before .before .before .args .out)) _ (c .before .before .give-out .ensures) (c .before .before .before .before .before .before .seal-first .ensures ∙ ap (sealBytes (c .before .before .before .before .before .before .before .before .before .before .before .before .before .before .args .c) (c .before .before .before .before .before .before .before .before .before .before .before .before .before .before .args .t) (keysOf (c .before .before .before .before .before .before .before .before .before .before .before .before .before .before .args .c) (now (c .before .before .before .before .before .before .before .before .before .before .before .before .before .before .args .ks)))) (c .before .before .before .before .before .before .before .before .before .take-in .ensures ∙ take-drop-all (8 * c .before .before .before .before .before .before .before .before .before .before .before .before .before .before .args .c) (now (c .before .before .before .before .before .before .before .before .before .before .before .before .before .before .args .text)) (c .before .before .before .before .before .before .before .before .before .before .before .before .before .before .pre .5)))
 

@@ -15,35 +15,27 @@ use Rattle.chains.proofs.cbc.Lts as lts
 use Rattle.chains.proofs.chain_out.Reads as chain-out-reads
 use Rattle.one_block.proofs.take_in.Reads as take-in-reads
 
--- src/lib.rt:102:24
 slice-aggregate-take-in : tie.Need-slice-aggregate-take-in
 slice-aggregate-take-in c = search needs
 
--- src/lib.rt:102:5
 take-in-requires : tie.Need-take-in-requires
 take-in-requires c κs = (omega (arith, width-le (c .before .before .before .before .before .args .c) (c .before .before .before .before .before .pre .1)), omega (arith, c .before .before .before .before .before .pre .5))
 
--- src/lib.rt:103:30
 slice-aggregate-chain-out : tie.Need-slice-aggregate-chain-out
 slice-aggregate-chain-out c = search needs
 
--- src/lib.rt:103:58
 mul-chain-out : tie.Need-mul-chain-out
 mul-chain-out c = omega (arith, width-le (c .before .before .before .before .before .before .before .before .args .c) (c .before .before .before .before .before .before .before .before .pre .1))
 
--- src/lib.rt:103:44
 div-chain-out : tie.Need-div-chain-out
 div-chain-out c = omega (arith, width-lt (c .before .before .before .before .before .before .before .before .args .c) (c .before .before .before .before .before .before .before .before .pre .1))
 
--- src/lib.rt:103:5
 chain-out-requires : tie.Need-chain-out-requires
 chain-out-requires c κs = (c .before .before .before .before .before .before .before .before .before .pre .0, c .before .before .before .before .before .before .before .before .before .pre .1, c .before .before .before .before .before .before .before .before .before .pre .2, c .before .before .before .before .before .before .before .before .before .pre .3, c .before .before .before .before .before .before .before .before .before .pre .4, omega (arith, width-le (c .before .before .before .before .before .before .before .before .before .args .c) (c .before .before .before .before .before .before .before .before .before .pre .1), c .before .before .before .take-in .kept .0), some-blocks (8 * c .before .before .before .before .before .before .before .before .before .args .c) (length (now (c .before .before .before .before .before .before .before .before .before .args .text))), omega (arith, some-blocks (8 * c .before .before .before .before .before .before .before .before .before .args .c) (length (now (c .before .before .before .before .before .before .before .before .before .args .text))), c .before .before .before .before .before .before .before .before .before .pre .7))
 
--- src/lib.rt:89:1
 same-length : tie.Need-same-length
 same-length c = search needs
 
--- src/lib.rt:89:1
 returns : tie.Need-returns
 returns c = cbc-is (8 * c .before .before .before .before .before .before .before .before .before .before .before .before .before .args .c) (sealBytes (c .before .before .before .before .before .before .before .before .before .before .before .before .before .args .c) (c .before .before .before .before .before .before .before .before .before .before .before .before .before .args .t) (keysOf (c .before .before .before .before .before .before .before .before .before .before .before .before .before .args .c) (now (c .before .before .before .before .before .before .before .before .before .before .before .before .before .args .ks)))) (now (c .before .before .before .before .before .before .before .before .before .before .before .before .before .args .iv)) (now (c .before .before .before .before .before .before .before .before .before .before .before .before .before .args .text)) (now (c .before .before .before .before .before .before .before .before .before .before .before .before .before .args .out)) _ _ (length (now (c .before .before .before .before .before .before .before .before .before .before .before .before .before .args .text)) / (8 * c .before .before .before .before .before .before .before .before .before .before .before .before .before .args .c)) (c .before .before .before .before .before .before .before .take-in .ensures ∙ take-drop-all (8 * c .before .before .before .before .before .before .before .before .before .before .before .before .before .args .c) (now (c .before .before .before .before .before .before .before .before .before .before .before .before .before .args .iv)) (c .before .before .before .before .before .before .before .before .before .before .before .before .before .pre .5)) (whole-blocks (8 * c .before .before .before .before .before .before .before .before .before .before .before .before .before .args .c) (length (now (c .before .before .before .before .before .before .before .before .before .before .before .before .before .args .text))) (c .before .before .before .before .before .before .before .before .before .before .before .before .before .pre .6)) (c .before .before .before .chain-out .ensures .1)
 

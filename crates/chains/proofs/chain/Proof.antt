@@ -23,39 +23,30 @@ Inv-loop tab ks c t s₀ text n at₀ i₀ s at i = (i ≤ n) × (at ≡ i * (8 
 abbrev μ-loop : tie.MeasureT-loop
 μ-loop tab ks c t s₀ text n at₀ i₀ s at i = n - i
 
--- src/lib.rt:57:5
 loop-holds : tie.Need-loop-holds Inv-loop μ-loop
 loop-holds c = (omega arith, sym (zero-mul (8 * c .before .before .before .args .c)), refl, chained-none (8 * c .before .before .before .args .c) (sealBytes (c .before .before .before .args .c) (c .before .before .before .args .t) (keysOf (c .before .before .before .args .c) (now (c .before .before .before .args .ks)))) (held (c .before .before .before .args .c) (now (c .before .before .before .args .s))) (now (c .before .before .before .args .text)))
 
--- src/lib.rt:58:9
 link-requires : tie.Need-link-requires Inv-loop μ-loop
 link-requires c κs = (c .before .before .before .before .before .before .pre .0, c .before .before .before .before .before .before .pre .1, c .before .before .before .before .before .before .pre .2, c .before .before .before .before .before .before .pre .3, c .before .before .before .before .before .before .pre .4, omega (arith, c .before .before .loop .inv .2, c .before .before .before .before .before .before .pre .5), omega (arith, c .before .before .loop .inv .1, block-room (8 * c .before .before .before .before .before .before .args .c) (c .before .before .loop .i) (c .before .before .before .before .before .before .args .n) (length (now (c .before .before .before .before .before .before .args .text))) (omega arith) (c .before .before .before .before .before .before .pre .6)))
 
--- src/lib.rt:59:15
 mul-at : tie.Need-mul-at Inv-loop μ-loop
 mul-at c = omega (arith, width-le (c .before .before .before .before .before .before .before .before .before .args .c) (c .before .before .before .before .before .before .before .before .before .pre .1))
 
--- src/lib.rt:59:9
 add-at : tie.Need-add-at Inv-loop μ-loop
 add-at c = omega (arith, c .before .before .before .before .before .before .before .before .before .good, c .before .before .before .before .before .loop .inv .1, block-room (8 * c .before .before .before .before .before .before .before .before .before .args .c) (c .before .before .before .before .before .loop .i) (c .before .before .before .before .before .before .before .before .before .args .n) (length (now (c .before .before .before .before .before .before .before .before .before .args .text))) (omega arith) (c .before .before .before .before .before .before .before .before .before .pre .6))
 
--- src/lib.rt:60:9
 add-i : tie.Need-add-i Inv-loop μ-loop
 add-i c = search needs
 
--- src/lib.rt:57:5
 loop-less : tie.Need-loop-less Inv-loop μ-loop
 loop-less c = search needs
 
--- src/lib.rt:57:5
 loop-again : tie.Need-loop-again Inv-loop μ-loop
 loop-again c = (omega arith, ap (λ x. x + (8 * c .before .before .before .before .before .before .before .before .before .args .c)) (c .before .before .before .before .before .loop .inv .1) ∙ sym (next-place (8 * c .before .before .before .before .before .before .before .before .before .args .c) (c .before .before .before .before .before .loop .i)), c .before .before .link .kept .1 .1 .1 .1 .0 ∙ c .before .before .before .before .before .loop .inv .2, chained-more (8 * c .before .before .before .before .before .before .before .before .before .args .c) (sealBytes (c .before .before .before .before .before .before .before .before .before .args .c) (c .before .before .before .before .before .before .before .before .before .args .t) (keysOf (c .before .before .before .before .before .before .before .before .before .args .c) (now (c .before .before .before .before .before .before .before .before .before .args .ks)))) (held (c .before .before .before .before .before .before .before .before .before .args .c) (now (c .before .before .before .before .before .before .before .before .before .args .s))) (now (c .before .before .before .before .before .before .before .before .before .args .text)) (c .before .before .before .before .before .loop .i) (c .before .before .before .before .before .loop .at) _ _ (c .before .before .before .before .before .loop .inv .1) (c .before .before .before .before .before .loop .inv .3) (c .before .before .link .ensures))
 
--- src/lib.rt:43:1
 same-length : tie.Need-same-length Inv-loop μ-loop
 same-length c = c .before .loop .inv .2
 
--- src/lib.rt:43:1
 returns : tie.Need-returns Inv-loop μ-loop
 returns c = c .before .loop .inv .3 ∙ ap (chained (8 * c .before .before .before .before .before .args .c) (sealBytes (c .before .before .before .before .before .args .c) (c .before .before .before .before .before .args .t) (keysOf (c .before .before .before .before .before .args .c) (now (c .before .before .before .before .before .args .ks)))) (held (c .before .before .before .before .before .args .c) (now (c .before .before .before .before .before .args .s))) (now (c .before .before .before .before .before .args .text))) (omega arith)
 

@@ -27,47 +27,36 @@ Inv-loop tab ks c t s₀ text n out₀ at₀ i₀ s out at i = (i ≤ n) × (at 
 abbrev μ-loop : tie.MeasureT-loop
 μ-loop tab ks c t s₀ text n out₀ at₀ i₀ s out at i = n - i
 
--- src/lib.rt:80:5
 loop-holds : tie.Need-loop-holds Inv-loop μ-loop
 loop-holds c = (omega arith, sym (zero-mul (8 * c .before .before .before .before .args .c)), refl, chained-none (8 * c .before .before .before .before .args .c) (sealBytes (c .before .before .before .before .args .c) (c .before .before .before .before .args .t) (keysOf (c .before .before .before .before .args .c) (now (c .before .before .before .before .args .ks)))) (held (c .before .before .before .before .args .c) (now (c .before .before .before .before .args .s))) (now (c .before .before .before .before .args .text)), refl, links-none (8 * c .before .before .before .before .args .c) (sealBytes (c .before .before .before .before .args .c) (c .before .before .before .before .args .t) (keysOf (c .before .before .before .before .args .c) (now (c .before .before .before .before .args .ks)))) (held (c .before .before .before .before .args .c) (now (c .before .before .before .before .args .s))) (now (c .before .before .before .before .args .text)) (now (c .before .before .before .before .args .out)))
 
--- src/lib.rt:81:9
 link-requires : tie.Need-link-requires Inv-loop μ-loop
 link-requires c κs = (c .before .before .before .before .before .before .before .pre .0, c .before .before .before .before .before .before .before .pre .1, c .before .before .before .before .before .before .before .pre .2, c .before .before .before .before .before .before .before .pre .3, c .before .before .before .before .before .before .before .pre .4, omega (arith, c .before .before .loop .inv .2, c .before .before .before .before .before .before .before .pre .5), omega (arith, c .before .before .loop .inv .1, block-room (8 * c .before .before .before .before .before .before .before .args .c) (c .before .before .loop .i) (c .before .before .before .before .before .before .before .args .n) (length (now (c .before .before .before .before .before .before .before .args .text))) (omega arith) (c .before .before .before .before .before .before .before .pre .6)))
 
--- src/lib.rt:82:9
 give-out-requires : tie.Need-give-out-requires Inv-loop μ-loop
 give-out-requires c κs = (omega (arith, c .before .before .before .before .before .before .before .loop .inv .2, c .before .before .before .before .before .before .before .before .before .before .before .before .pre .5, c .before .before .before .before .link .kept .1 .1 .1 .1 .0), omega (arith, c .before .before .before .before .before .before .before .loop .inv .1, c .before .before .before .before .before .before .before .loop .inv .4, block-room (8 * c .before .before .before .before .before .before .before .before .before .before .before .before .args .c) (c .before .before .before .before .before .before .before .loop .i) (c .before .before .before .before .before .before .before .before .before .before .before .before .args .n) (length (now (c .before .before .before .before .before .before .before .before .before .before .before .before .args .out))) (omega arith) (c .before .before .before .before .before .before .before .before .before .before .before .before .pre .7)))
 
--- src/lib.rt:83:15
 mul-at : tie.Need-mul-at Inv-loop μ-loop
 mul-at c = omega (arith, width-le (c .before .before .before .before .before .before .before .before .before .before .before .before .before .before .before .args .c) (c .before .before .before .before .before .before .before .before .before .before .before .before .before .before .before .pre .1))
 
--- src/lib.rt:83:9
 add-at : tie.Need-add-at Inv-loop μ-loop
 add-at c = omega (arith, c .before .before .before .before .before .before .before .before .before .before .before .before .before .before .before .good, c .before .before .before .before .before .before .before .before .before .before .loop .inv .1, block-room (8 * c .before .before .before .before .before .before .before .before .before .before .before .before .before .before .before .args .c) (c .before .before .before .before .before .before .before .before .before .before .loop .i) (c .before .before .before .before .before .before .before .before .before .before .before .before .before .before .before .args .n) (length (now (c .before .before .before .before .before .before .before .before .before .before .before .before .before .before .before .args .text))) (omega arith) (c .before .before .before .before .before .before .before .before .before .before .before .before .before .before .before .pre .6))
 
--- src/lib.rt:84:9
 add-i : tie.Need-add-i Inv-loop μ-loop
 add-i c = search needs
 
--- src/lib.rt:80:5
 loop-less : tie.Need-loop-less Inv-loop μ-loop
 loop-less c = search needs
 
--- src/lib.rt:80:5
 loop-again : tie.Need-loop-again Inv-loop μ-loop
 loop-again c = (omega arith, ap (λ x. x + (8 * c .before .before .before .before .before .before .before .before .before .before .before .before .before .before .before .args .c)) (c .before .before .before .before .before .before .before .before .before .before .loop .inv .1) ∙ sym (next-place (8 * c .before .before .before .before .before .before .before .before .before .before .before .before .before .before .before .args .c) (c .before .before .before .before .before .before .before .before .before .before .loop .i)), c .before .before .before .before .before .before .before .link .kept .1 .1 .1 .1 .0 ∙ c .before .before .before .before .before .before .before .before .before .before .loop .inv .2, chained-more (8 * c .before .before .before .before .before .before .before .before .before .before .before .before .before .before .before .args .c) (sealBytes (c .before .before .before .before .before .before .before .before .before .before .before .before .before .before .before .args .c) (c .before .before .before .before .before .before .before .before .before .before .before .before .before .before .before .args .t) (keysOf (c .before .before .before .before .before .before .before .before .before .before .before .before .before .before .before .args .c) (now (c .before .before .before .before .before .before .before .before .before .before .before .before .before .before .before .args .ks)))) (held (c .before .before .before .before .before .before .before .before .before .before .before .before .before .before .before .args .c) (now (c .before .before .before .before .before .before .before .before .before .before .before .before .before .before .before .args .s))) (now (c .before .before .before .before .before .before .before .before .before .before .before .before .before .before .before .args .text)) (c .before .before .before .before .before .before .before .before .before .before .loop .i) (c .before .before .before .before .before .before .before .before .before .before .loop .at) _ _ (c .before .before .before .before .before .before .before .before .before .before .loop .inv .1) (c .before .before .before .before .before .before .before .before .before .before .loop .inv .3) (c .before .before .before .before .before .before .before .link .ensures), c .before .before .give-out .kept .1 .1 .0 ∙ c .before .before .before .before .before .before .before .before .before .before .loop .inv .4, links-stored (8 * c .before .before .before .before .before .before .before .before .before .before .before .before .before .before .before .args .c) (sealBytes (c .before .before .before .before .before .before .before .before .before .before .before .before .before .before .before .args .c) (c .before .before .before .before .before .before .before .before .before .before .before .before .before .before .before .args .t) (keysOf (c .before .before .before .before .before .before .before .before .before .before .before .before .before .before .before .args .c) (now (c .before .before .before .before .before .before .before .before .before .before .before .before .before .before .before .args .ks)))) (held (c .before .before .before .before .before .before .before .before .before .before .before .before .before .before .before .args .c) (now (c .before .before .before .before .before .before .before .before .before .before .before .before .before .before .before .args .s))) (now (c .before .before .before .before .before .before .before .before .before .before .before .before .before .before .before .args .text)) (c .before .before .before .before .before .before .before .before .before .before .loop .i) (c .before .before .before .before .before .before .before .before .before .before .loop .at) (now (c .before .before .before .before .before .before .before .before .before .before .before .before .before .before .before .args .out)) (c .before .before .before .before .before .before .before .before .before .before .loop .out) _ _ (c .before .before .before .before .before .before .before .before .before .before .loop .inv .1) (length-held (c .before .before .before .before .before .before .before .before .before .before .before .before .before .before .before .args .c) _) (chained-more (8 * c .before .before .before .before .before .before .before .before .before .before .before .before .before .before .before .args .c) (sealBytes (c .before .before .before .before .before .before .before .before .before .before .before .before .before .before .before .args .c) (c .before .before .before .before .before .before .before .before .before .before .before .before .before .before .before .args .t) (keysOf (c .before .before .before .before .before .before .before .before .before .before .before .before .before .before .before .args .c) (now (c .before .before .before .before .before .before .before .before .before .before .before .before .before .before .before .args .ks)))) (held (c .before .before .before .before .before .before .before .before .before .before .before .before .before .before .before .args .c) (now (c .before .before .before .before .before .before .before .before .before .before .before .before .before .before .before .args .s))) (now (c .before .before .before .before .before .before .before .before .before .before .before .before .before .before .before .args .text)) (c .before .before .before .before .before .before .before .before .before .before .loop .i) (c .before .before .before .before .before .before .before .before .before .before .loop .at) _ _ (c .before .before .before .before .before .before .before .before .before .before .loop .inv .1) (c .before .before .before .before .before .before .before .before .before .before .loop .inv .3) (c .before .before .before .before .before .before .before .link .ensures)) (c .before .before .before .before .before .before .before .before .before .before .loop .inv .5) (c .before .before .give-out .ensures))
 
--- src/lib.rt:65:1
 same-length : tie.Need-same-length Inv-loop μ-loop
 same-length c = c .before .loop .inv .2
 
--- src/lib.rt:65:1
 same-length-2 : tie.Need-same-length-2 Inv-loop μ-loop
 same-length-2 c = c .before .loop .inv .4
 
--- src/lib.rt:65:1
 returns : tie.Need-returns Inv-loop μ-loop
 returns c = (c .before .loop .inv .3 ∙ ap (chained (8 * c .before .before .before .before .before .before .args .c) (sealBytes (c .before .before .before .before .before .before .args .c) (c .before .before .before .before .before .before .args .t) (keysOf (c .before .before .before .before .before .before .args .c) (now (c .before .before .before .before .before .before .args .ks)))) (held (c .before .before .before .before .before .before .args .c) (now (c .before .before .before .before .before .before .args .s))) (now (c .before .before .before .before .before .before .args .text))) (omega arith), c .before .loop .inv .5 ∙ ap (λ m. links (8 * c .before .before .before .before .before .before .args .c) (sealBytes (c .before .before .before .before .before .before .args .c) (c .before .before .before .before .before .before .args .t) (keysOf (c .before .before .before .before .before .before .args .c) (now (c .before .before .before .before .before .before .args .ks)))) (held (c .before .before .before .before .before .before .args .c) (now (c .before .before .before .before .before .before .args .s))) (now (c .before .before .before .before .before .before .args .text)) m ++ drop (m * (8 * c .before .before .before .before .before .before .args .c)) (now (c .before .before .before .before .before .before .args .out))) (omega arith))
 

@@ -10,19 +10,15 @@ use Rattle.chains.proofs.link.Lts as lts
 use Rattle.one_block.proofs.add_in.Reads as add-in-reads
 use Rattle.one_block.proofs.seal_first.Reads as seal-first-reads
 
--- src/lib.rt:38:5
 add-in-requires : tie.Need-add-in-requires
 add-in-requires c κs = search needs
 
--- src/lib.rt:39:5
 seal-first-requires : tie.Need-seal-first-requires
 seal-first-requires c κs = search needs
 
--- src/lib.rt:26:1
 same-length : tie.Need-same-length
 same-length c = search needs
 
--- src/lib.rt:26:1
 returns : tie.Need-returns
 returns c = c .before .before .seal-first .ensures ∙ ap (sealBytes (c .before .before .before .before .before .before .before .before .before .before .before .args .c) (c .before .before .before .before .before .before .before .before .before .before .before .args .t) (keysOf (c .before .before .before .before .before .before .before .before .before .before .before .args .c) (now (c .before .before .before .before .before .before .before .before .before .before .before .args .ks)))) (c .before .before .before .before .before .before .add-in .ensures)
 

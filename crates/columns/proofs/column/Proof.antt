@@ -13,19 +13,15 @@ use Rattle.columns.proofs.column.Lts as lts
 use Rattle.columns.proofs.half_on.Reads as half-on-reads
 use Rattle.columns.proofs.turn.Reads as turn-reads
 
--- src/lib.rt:71:21
 half-on-requires : tie.Need-half-on-requires
 half-on-requires c κs = search needs
 
--- src/lib.rt:71:16
 turn-requires : tie.Need-turn-requires
 turn-requires c κs = search needs
 
--- src/lib.rt:71:5
 half-on-requires-2 : tie.Need-half-on-requires-2
 half-on-requires-2 c κs = search needs
 
--- src/lib.rt:68:1
 returns : tie.Need-returns
 unfolding gather
 returns c = c .half-on2 .ensures ∙ comm _ _ ∙ ap₂ xor (half-ext (now (c .before .before .before .args .t)) _ _ (four _ refl refl refl refl)) (c .before .turn .ensures ∙ ap turned (c .before .before .half-on .ensures ∙ zero-l _ ∙ half-ext (now (c .before .before .before .args .t)) _ _ (four _ refl refl refl refl)))

@@ -14,23 +14,18 @@ use Rattle.columns.proofs.half_on.Reads as half-on-reads
 use Rattle.columns.proofs.turn.Reads as turn-reads
 use Rattle.field.proofs.x64.Reads as x64-reads
 
--- src/lib.rt:88:16
 half-on-requires : tie.Need-half-on-requires
 half-on-requires c κs = search needs
 
--- src/lib.rt:88:48
 half-on-requires-2 : tie.Need-half-on-requires-2
 half-on-requires-2 c κs = search needs
 
--- src/lib.rt:88:43
 turn-requires : tie.Need-turn-requires
 turn-requires c κs = search needs
 
--- src/lib.rt:88:5
 x64-requires : tie.Need-x64-requires
 x64-requires c κs = search needs
 
--- src/lib.rt:75:1
 returns : tie.Need-returns
 unfolding gather
 returns c = c .x64 .ensures ∙ ap₂ xor (c .before .before .before .half-on .ensures ∙ zero-l _ ∙ half-ext (now (c .before .before .before .before .args .t)) _ _ (four _ refl refl refl refl)) (c .before .turn .ensures ∙ ap turned (c .before .before .half-on2 .ensures ∙ zero-l _ ∙ half-ext (now (c .before .before .before .before .args .t)) _ _ (four _ refl refl refl refl)))

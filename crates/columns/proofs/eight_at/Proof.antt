@@ -11,155 +11,117 @@ use Rattle.columns.proofs.eight_at.Reads as reads
 use Rattle.columns.proofs.eight_at.Lts as lts
 use Rattle.columns.proofs.wide.Reads as wide-reads
 
--- src/lib.rt:21:20
 add-wide : tie.Need-add-wide
 add-wide c = search needs
 
--- src/lib.rt:21:18
 element-copy-out-wide : tie.Need-element-copy-out-wide
 element-copy-out-wide c = search needs
 
--- src/lib.rt:21:13
 wide-requires : tie.Need-wide-requires
 wide-requires c κs = search needs
 
--- src/lib.rt:21:13
 mul-h : tie.Need-mul-h
 mul-h c = search needs
 
--- src/lib.rt:21:43
 add-wide-2 : tie.Need-add-wide-2
 add-wide-2 c = search needs
 
--- src/lib.rt:21:41
 element-copy-out-wide-2 : tie.Need-element-copy-out-wide-2
 element-copy-out-wide-2 c = search needs
 
--- src/lib.rt:21:36
 wide-requires-2 : tie.Need-wide-requires-2
 wide-requires-2 c κs = search needs
 
--- src/lib.rt:21:13
 add-h : tie.Need-add-h
 add-h c = search needs
 
--- src/lib.rt:22:13
 mul-g : tie.Need-mul-g
 mul-g c = search needs
 
--- src/lib.rt:22:30
 add-wide-3 : tie.Need-add-wide-3
 add-wide-3 c = search needs
 
--- src/lib.rt:22:28
 element-copy-out-wide-3 : tie.Need-element-copy-out-wide-3
 element-copy-out-wide-3 c = search needs
 
--- src/lib.rt:22:23
 wide-requires-3 : tie.Need-wide-requires-3
 wide-requires-3 c κs = search needs
 
--- src/lib.rt:22:13
 add-g : tie.Need-add-g
 add-g c = search needs
 
--- src/lib.rt:23:13
 mul-f : tie.Need-mul-f
 mul-f c = search needs
 
--- src/lib.rt:23:30
 add-wide-4 : tie.Need-add-wide-4
 add-wide-4 c = search needs
 
--- src/lib.rt:23:28
 element-copy-out-wide-4 : tie.Need-element-copy-out-wide-4
 element-copy-out-wide-4 c = search needs
 
--- src/lib.rt:23:23
 wide-requires-4 : tie.Need-wide-requires-4
 wide-requires-4 c κs = search needs
 
--- src/lib.rt:23:13
 add-f : tie.Need-add-f
 add-f c = search needs
 
--- src/lib.rt:24:13
 mul-e : tie.Need-mul-e
 mul-e c = search needs
 
--- src/lib.rt:24:30
 add-wide-5 : tie.Need-add-wide-5
 add-wide-5 c = search needs
 
--- src/lib.rt:24:28
 element-copy-out-wide-5 : tie.Need-element-copy-out-wide-5
 element-copy-out-wide-5 c = search needs
 
--- src/lib.rt:24:23
 wide-requires-5 : tie.Need-wide-requires-5
 wide-requires-5 c κs = search needs
 
--- src/lib.rt:24:13
 add-e : tie.Need-add-e
 add-e c = search needs
 
--- src/lib.rt:25:13
 mul-d : tie.Need-mul-d
 mul-d c = search needs
 
--- src/lib.rt:25:30
 add-wide-6 : tie.Need-add-wide-6
 add-wide-6 c = search needs
 
--- src/lib.rt:25:28
 element-copy-out-wide-6 : tie.Need-element-copy-out-wide-6
 element-copy-out-wide-6 c = search needs
 
--- src/lib.rt:25:23
 wide-requires-6 : tie.Need-wide-requires-6
 wide-requires-6 c κs = search needs
 
--- src/lib.rt:25:13
 add-d : tie.Need-add-d
 add-d c = search needs
 
--- src/lib.rt:26:13
 mul-c : tie.Need-mul-c
 mul-c c = search needs
 
--- src/lib.rt:26:30
 add-wide-7 : tie.Need-add-wide-7
 add-wide-7 c = search needs
 
--- src/lib.rt:26:28
 element-copy-out-wide-7 : tie.Need-element-copy-out-wide-7
 element-copy-out-wide-7 c = search needs
 
--- src/lib.rt:26:23
 wide-requires-7 : tie.Need-wide-requires-7
 wide-requires-7 c κs = search needs
 
--- src/lib.rt:26:13
 add-c : tie.Need-add-c
 add-c c = search needs
 
--- src/lib.rt:27:5
 mul-result : tie.Need-mul-result
 mul-result c = search needs
 
--- src/lib.rt:27:20
 element-copy-out-wide-8 : tie.Need-element-copy-out-wide-8
 element-copy-out-wide-8 c = search needs
 
--- src/lib.rt:27:15
 wide-requires-8 : tie.Need-wide-requires-8
 wide-requires-8 c κs = search needs
 
--- src/lib.rt:27:5
 add-result : tie.Need-add-result
 add-result c = search needs
 
--- src/lib.rt:17:1
 returns : tie.Need-returns
 returns c = eight-bytes (λ k. getD (now (c .before .before .before .before .before .before .before .before .before .before .before .before .before .before .before .before .args .t)) (c .before .before .before .before .before .before .before .before .before .before .before .before .before .before .before .before .args .p + k) 0) _ _ _ _ _ _ _ _ (c .before .before .before .before .before .before .before .before .before .before .before .before .before .before .wide .ensures .0) (c .before .before .before .before .before .before .before .before .before .before .before .before .wide2 .ensures .0) (c .before .before .before .before .before .before .before .before .before .before .wide3 .ensures .0) (c .before .before .before .before .before .before .before .before .wide4 .ensures .0) (c .before .before .before .before .before .before .wide5 .ensures .0) (c .before .before .before .before .wide6 .ensures .0) (c .before .before .wide7 .ensures .0) (c .wide8 .ensures .0 ∙ ap (λ n. getD (now (c .before .before .before .before .before .before .before .before .before .before .before .before .before .before .before .before .args .t)) n 0) (sym (add-zero (c .before .before .before .before .before .before .before .before .before .before .before .before .before .before .before .before .args .p))))
 

@@ -7,23 +7,18 @@ use Rattle.columns.proofs.entry_at.Reads as reads
 use Rattle.columns.proofs.entry_at.Lts as lts
 use Rattle.columns.proofs.eight_at.Reads as eight-at-reads
 
--- src/lib.rt:35:17
 mul-eight-at : tie.Need-mul-eight-at
 mul-eight-at c = search needs
 
--- src/lib.rt:35:28
 mul-eight-at-2 : tie.Need-mul-eight-at-2
 mul-eight-at-2 c = search needs
 
--- src/lib.rt:35:17
 add-eight-at : tie.Need-add-eight-at
 add-eight-at c = search needs
 
--- src/lib.rt:35:5
 eight-at-requires : tie.Need-eight-at-requires
 eight-at-requires c κs = search needs
 
--- src/lib.rt:31:1
 returns : tie.Need-returns
 unfolding entry
 returns c = c .eight-at .ensures

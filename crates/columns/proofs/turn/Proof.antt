@@ -8,16 +8,13 @@ use Rattle.columns.proofs.turn.Tie as tie
 use Rattle.columns.proofs.turn.Reads as reads
 use Rattle.columns.proofs.turn.Lts as lts
 
--- src/lib.rt:54:5
 mul-result : tie.Need-mul-result
 mul-result c = search needs
 
--- src/lib.rt:54:5
 add-result : tie.Need-add-result
 unfolding turned
 add-result c = record { fits = turn-fits (c .args .w) (omega arith) }
 
--- src/lib.rt:51:1
 returns : tie.Need-returns
 unfolding turned
 returns c = refl

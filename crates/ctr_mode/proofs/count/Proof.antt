@@ -17,48 +17,37 @@ Inv-loop e s₀ w c x more₀ j₀ s more j = (j ≤ c) × (s ≡ putWords s₀ 
 abbrev μ-loop : tie.MeasureT-loop
 μ-loop e s₀ w c x more₀ j₀ s more j = c - j
 
--- src/lib.rt:64:5
 loop-holds : tie.Need-loop-holds Inv-loop μ-loop
 unfolding putWords carry
 loop-holds c = (omega arith, refl, refl)
 
--- src/lib.rt:65:13
 word-at-requires : tie.Need-word-at-requires Inv-loop μ-loop
 word-at-requires c κs = search needs
 
--- src/lib.rt:66:28
 add-put-word : tie.Need-add-put-word Inv-loop μ-loop
 add-put-word c = search needs
 
--- src/lib.rt:66:35
 wrapping-add-u64-requires : tie.Need-wrapping-add-u64-requires Inv-loop μ-loop
 wrapping-add-u64-requires c κs = search needs
 
--- src/lib.rt:66:9
 put-word-requires : tie.Need-put-word-requires Inv-loop μ-loop
 put-word-requires c κs = omega (arith, ap length (c .before .before .before .before .loop .inv .1), length-puts (now (c .before .before .before .before .before .before .before .args .s)) (c .before .before .before .before .before .before .before .args .w) (c .before .before .before .before .loop .j) (counted (now (c .before .before .before .before .before .before .before .args .e)) (c .before .before .before .before .before .before .before .args .x)))
 
--- src/lib.rt:67:13
 over-requires : tie.Need-over-requires Inv-loop μ-loop
 over-requires c κs = search needs
 
--- src/lib.rt:69:9
 add-j : tie.Need-add-j Inv-loop μ-loop
 add-j c = search needs
 
--- src/lib.rt:64:5
 loop-less : tie.Need-loop-less Inv-loop μ-loop
 loop-less c = search needs
 
--- src/lib.rt:64:5
 loop-again : tie.Need-loop-again Inv-loop μ-loop
 loop-again c = (omega arith, puts-more (now (c .before .before .before .before .before .before .before .before .before .before .before .args .s)) (c .before .before .before .before .before .before .before .before .loop .s) (c .before .before .before .put-word .last .0) (c .before .before .before .before .before .before .before .before .before .before .before .args .w) (c .before .before .before .before .before .before .before .before .loop .j) (counted (now (c .before .before .before .before .before .before .before .before .before .before .before .args .e)) (c .before .before .before .before .before .before .before .before .before .before .before .args .x)) _ (c .before .before .before .before .before .before .before .before .loop .inv .1) (c .before .before .before .put-word .ensures) (counting.counted-next (now (c .before .before .before .before .before .before .before .before .before .before .before .args .e)) (c .before .before .before .before .before .before .before .before .before .before .before .args .x) (c .before .before .before .before .before .before .before .before .loop .j) _ (c .before .before .before .before .before .before .before .before .loop .more) _ (c .before .before .before .before .before .before .word-at .ensures) (c .before .before .before .before .before .before .before .before .loop .inv .2) (c .before .before .before .before .wrapping-add-u64 .ensures)), counting.carry-next (now (c .before .before .before .before .before .before .before .before .before .before .before .args .e)) (c .before .before .before .before .before .before .before .before .before .before .before .args .x) (c .before .before .before .before .before .before .before .before .loop .j) _ (c .before .before .before .before .before .before .before .before .loop .more) _ (c .before .before .before .before .before .before .word-at .ensures) (c .before .before .before .before .before .before .before .before .loop .inv .2) (c .over .ensures))
 
--- src/lib.rt:58:1
 same-length : tie.Need-same-length Inv-loop μ-loop
 same-length c = ap length (c .before .loop .inv .1) ∙ length-puts (now (c .before .before .before .before .args .s)) (c .before .before .before .before .args .w) (c .before .loop .j) (counted (now (c .before .before .before .before .args .e)) (c .before .before .before .before .args .x))
 
--- src/lib.rt:58:1
 returns : tie.Need-returns Inv-loop μ-loop
 returns c = c .before .loop .inv .1 ∙ ap (λ n. putWords (now (c .before .before .before .before .args .s)) (c .before .before .before .before .args .w) n (counted (now (c .before .before .before .before .args .e)) (c .before .before .before .before .args .x))) (omega arith)
 

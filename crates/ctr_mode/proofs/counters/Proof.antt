@@ -12,39 +12,30 @@ use Rattle.ctr_mode.proofs.counters.Reads as reads
 use Rattle.ctr_mode.proofs.counters.Lts as lts
 use Rattle.ctr_mode.proofs.counters_for.Reads as counters-for-reads
 
--- src/lib.rt:93:9
 counters-for-requires : tie.Need-counters-for-requires
 counters-for-requires c κs = subst (λ d. (4 * d ≤ length (now (c .before .before .before .before .args .e))) × (4 * (d * c .before .before .before .before .args .n) ≤ length (now (c .before .before .before .before .args .s)))) (c .before .if1 .taken) (c .before .before .before .before .pre .0, c .before .before .before .before .pre .1)
 
--- src/lib.rt:94:9
 same-length : tie.Need-same-length
 same-length c = search needs
 
--- src/lib.rt:94:9
 returns : tie.Need-returns
 returns c = subst (λ d. Laid d (c .before .before .before .before .before .before .before .args .n) (λ i. tab d (counted (now (c .before .before .before .before .before .before .before .args .e)) (i + 1))) (now (c .before .before .before .before .before .before .before .args .s)) (c .before .before .counters-for .last .1 .0)) (sym (c .before .before .before .before .if1 .taken)) (c .before .before .counters-for .ensures)
 
--- src/lib.rt:97:9
 counters-for-requires-2 : tie.Need-counters-for-requires-2
 counters-for-requires-2 c κs = subst (λ d. (4 * d ≤ length (now (c .before .before .before .before .before .args .e))) × (4 * (d * c .before .before .before .before .before .args .n) ≤ length (now (c .before .before .before .before .before .args .s)))) (c .before .if2 .taken) (c .before .before .before .before .before .pre .0, c .before .before .before .before .before .pre .1)
 
--- src/lib.rt:98:9
 same-length-2 : tie.Need-same-length-2
 same-length-2 c = search needs
 
--- src/lib.rt:98:9
 returns-2 : tie.Need-returns-2
 returns-2 c = subst (λ d. Laid d (c .before .before .before .before .before .before .before .before .args .n) (λ i. tab d (counted (now (c .before .before .before .before .before .before .before .before .args .e)) (i + 1))) (now (c .before .before .before .before .before .before .before .before .args .s)) (c .before .before .counters-for2 .last .1 .0)) (sym (c .before .before .before .before .if2 .taken)) (c .before .before .counters-for2 .ensures)
 
--- src/lib.rt:100:5
 counters-for-requires-3 : tie.Need-counters-for-requires-3
 counters-for-requires-3 c κs = subst (λ d. (4 * d ≤ length (now (c .before .before .before .before .before .args .e))) × (4 * (d * c .before .before .before .before .before .args .n) ≤ length (now (c .before .before .before .before .before .args .s)))) (eight-is (c .before .before .before .before .before .args .c) (c .before .before .before .before .before .pre .2) (c .before .before .if1 .left) (c .before .if2 .left)) (c .before .before .before .before .before .pre .0, c .before .before .before .before .before .pre .1)
 
--- src/lib.rt:88:1
 same-length-3 : tie.Need-same-length-3
 same-length-3 c = search needs
 
--- src/lib.rt:88:1
 returns-3 : tie.Need-returns-3
 returns-3 c = subst (λ d. Laid d (c .before .before .before .before .before .before .before .before .args .n) (λ i. tab d (counted (now (c .before .before .before .before .before .before .before .before .args .e)) (i + 1))) (now (c .before .before .before .before .before .before .before .before .args .s)) (c .before .before .counters-for3 .last .1 .0)) (sym (eight-is (c .before .before .before .before .before .before .before .before .args .c) (c .before .before .before .before .before .before .before .before .pre .2) (c .before .before .before .before .before .if1 .left) (c .before .before .before .before .if2 .left))) (c .before .before .counters-for3 .ensures)
 

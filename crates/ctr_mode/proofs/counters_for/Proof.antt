@@ -20,39 +20,30 @@ Inv-loop e s₀ n c i₀ w₀ s i w = (i ≤ n) × (w ≡ c * i) × Laid c i (λ
 abbrev μ-loop : tie.MeasureT-loop
 μ-loop e s₀ n c i₀ w₀ s i w = n - i
 
--- src/lib.rt:80:5
 loop-holds : tie.Need-loop-holds Inv-loop μ-loop
 loop-holds c = (omega arith, sym (mul-zero (c .before .before .args .c)), cells.laid-none (c .before .before .args .c) (λ i. tab (c .before .before .args .c) (counted (now (c .before .before .args .e)) (i + 1))) (now (c .before .before .args .s)))
 
--- src/lib.rt:81:28
 add-count : tie.Need-add-count Inv-loop μ-loop
 add-count c = search needs
 
--- src/lib.rt:81:9
 count-requires : tie.Need-count-requires Inv-loop μ-loop
 count-requires c κs = (c .before .before .before .before .before .pre .0, omega (arith, c .before .before .loop .inv .1, c .before .before .loop .inv .2 .long, c .before .before .before .before .before .pre .1, next-block (c .before .before .before .before .before .args .c) (c .before .before .loop .i) (c .before .before .before .before .before .args .n) (omega arith)))
 
--- src/lib.rt:82:9
 add-w : tie.Need-add-w Inv-loop μ-loop
 add-w c = omega (arith, c .before .before .before .before .before .loop .inv .1, c .before .before .before .before .before .before .before .before .pre .1, c .before .before .before .before .before .before .before .before .good, next-block (c .before .before .before .before .before .before .before .before .args .c) (c .before .before .before .before .before .loop .i) (c .before .before .before .before .before .before .before .before .args .n) (omega arith))
 
--- src/lib.rt:83:9
 add-i : tie.Need-add-i Inv-loop μ-loop
 add-i c = search needs
 
--- src/lib.rt:80:5
 loop-less : tie.Need-loop-less Inv-loop μ-loop
 loop-less c = search needs
 
--- src/lib.rt:80:5
 loop-again : tie.Need-loop-again Inv-loop μ-loop
 loop-again c = (omega arith, ap (λ x. x + c .before .before .before .before .before .before .before .before .args .c) (c .before .before .before .before .before .loop .inv .1) ∙ sym (mul-suc (c .before .before .before .before .before .before .before .before .args .c) (c .before .before .before .before .before .loop .i)) ∙ ap (λ x. (c .before .before .before .before .before .before .before .before .args .c) * x) (sym (add-one (c .before .before .before .before .before .loop .i))), cells.laid-more (c .before .before .before .before .before .before .before .before .args .c) (c .before .before .before .before .before .loop .i) (λ i. tab (c .before .before .before .before .before .before .before .before .args .c) (counted (now (c .before .before .before .before .before .before .before .before .args .e)) (i + 1))) (counted (now (c .before .before .before .before .before .before .before .before .args .e)) (c .before .before .before .before .before .loop .i + 1)) (now (c .before .before .before .before .before .before .before .before .args .s)) (c .before .before .before .before .before .loop .s) (c .before .before .count .last .1 .0) (c .before .before .before .before .before .loop .inv .2) (omega (arith, c .before .before .before .before .before .before .before .before .pre .1, next-block (c .before .before .before .before .before .before .before .before .args .c) (c .before .before .before .before .before .loop .i) (c .before .before .before .before .before .before .before .before .args .n) (omega arith))) (subst (λ w. c .before .before .count .last .1 .0 ≡ putWords (c .before .before .before .before .before .loop .s) w (c .before .before .before .before .before .before .before .before .args .c) (counted (now (c .before .before .before .before .before .before .before .before .args .e)) (c .before .before .before .before .before .loop .i + 1))) (c .before .before .before .before .before .loop .inv .1) (c .before .before .count .ensures)) (λ k l. counting.counted-lt (now (c .before .before .before .before .before .before .before .before .args .e)) (c .before .before .before .before .before .loop .i + 1) k) refl)
 
--- src/lib.rt:74:1
 same-length : tie.Need-same-length Inv-loop μ-loop
 same-length c = c .before .loop .inv .2 .long
 
--- src/lib.rt:74:1
 returns : tie.Need-returns Inv-loop μ-loop
 returns c = subst (λ n. Laid (c .before .before .before .before .args .c) n (λ i. tab (c .before .before .before .before .args .c) (counted (now (c .before .before .before .before .args .e)) (i + 1))) (now (c .before .before .before .before .args .s)) (c .before .loop .s)) (omega arith) (c .before .loop .inv .2)
 

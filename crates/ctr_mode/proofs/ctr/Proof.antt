@@ -16,35 +16,27 @@ use borrow.Author.Needs.{needs}
 use Rattle.ctr_mode.proofs.ctr.Statement.{statement}
 use Rattle.ctr_mode.proofs.ctr.Tie as tie
 
--- src/lib.rt:105:35
 slice-aggregate-ctr-gammas : tie.Need-slice-aggregate-ctr-gammas
 slice-aggregate-ctr-gammas c = search needs
 
--- src/lib.rt:105:43
 slice-aggregate-ctr-gammas-2 : tie.Need-slice-aggregate-ctr-gammas-2
 slice-aggregate-ctr-gammas-2 c = search needs
 
--- src/lib.rt:105:51
 blocks-of-requires : tie.Need-blocks-of-requires
 blocks-of-requires c κs = search needs
 
--- src/lib.rt:105:5
 ctr-gammas-requires : tie.Need-ctr-gammas-requires
 ctr-gammas-requires c κs = (c .before .before .before .before .before .before .before .pre .0, c .before .before .before .before .before .before .before .pre .1, c .before .before .before .before .before .before .before .pre .2, c .before .before .before .before .before .before .before .pre .3, c .before .before .before .before .before .before .before .pre .4, c .before .before .before .before .before .before .before .pre .5, omega (arith, width-pos (c .before .before .before .before .before .before .before .args .c) (c .before .before .before .before .before .before .before .pre .1), width-le (c .before .before .before .before .before .before .before .args .c) (c .before .before .before .before .before .before .before .pre .1)), subst (λ n. 4 * ((c .before .before .before .before .before .before .before .args .c) * n) ≤ 512) (sym (c .blocks-of .ensures)) (widths.blocks-fit (length (now (c .before .before .before .before .before .before .before .args .text))) (c .before .before .before .before .before .before .before .args .c) (c .before .before .before .before .before .before .before .pre .1) (c .before .before .before .before .before .before .before .pre .6)))
 
--- src/lib.rt:106:15
 slice-aggregate-add-front : tie.Need-slice-aggregate-add-front
 slice-aggregate-add-front c = search needs
 
--- src/lib.rt:106:5
 add-front-requires : tie.Need-add-front-requires
 add-front-requires c κs = (omega (arith, c .before .before .before .before .ctr-gammas .ensures .long, c .before .before .before .before .before .before .before .before .before .before .before .before .pre .6), omega (arith, c .before .before .before .before .ctr-gammas .ensures .long), omega arith, omega (arith, c .before .before .before .before .before .before .before .before .before .before .before .before .pre .7))
 
--- src/lib.rt:98:1
 same-length : tie.Need-same-length
 same-length c = search needs
 
--- src/lib.rt:98:1
 returns : tie.Need-returns
 returns c = modes.ctr-is (c .before .before .before .before .before .before .before .before .before .before .before .before .before .before .before .args .c) (c .before .before .before .before .before .before .before .before .before .before .before .before .before .before .before .args .t) (keysOf (c .before .before .before .before .before .before .before .before .before .before .before .before .before .before .before .args .c) (now (c .before .before .before .before .before .before .before .before .before .before .before .before .before .before .before .args .ks))) (now (c .before .before .before .before .before .before .before .before .before .before .before .before .before .before .before .args .iv)) (now (c .before .before .before .before .before .before .before .before .before .before .before .before .before .before .before .args .text)) _ (c .before .before .before .before .before .before .before .ctr-gammas .last .1 .1 .1 .1 .1 .1 .0) (now (c .before .before .before .before .before .before .before .before .before .before .before .before .before .before .before .args .out)) (c .before .before .add-front .last .1 .1 .0) (c .before .before .before .before .before .before .before .before .before .before .before .before .before .before .before .pre .1) (subst (λ n. Laid (c .before .before .before .before .before .before .before .before .before .before .before .before .before .before .before .args .c) n (λ i. seal (c .before .before .before .before .before .before .before .before .before .before .before .before .before .before .before .args .c) (c .before .before .before .before .before .before .before .before .before .before .before .before .before .before .before .args .t) (keysOf (c .before .before .before .before .before .before .before .before .before .before .before .before .before .before .before .args .c) (now (c .before .before .before .before .before .before .before .before .before .before .before .before .before .before .before .args .ks))) (columnsOf (c .before .before .before .before .before .before .before .before .before .before .before .before .before .before .before .args .c) (Text.blockOf (8 * (c .before .before .before .before .before .before .before .before .before .before .before .before .before .before .before .args .c)) (counter (8 * (c .before .before .before .before .before .before .before .before .before .before .before .before .before .before .before .args .c)) (sealBytes (c .before .before .before .before .before .before .before .before .before .before .before .before .before .before .before .args .c) (c .before .before .before .before .before .before .before .before .before .before .before .before .before .before .before .args .t) (keysOf (c .before .before .before .before .before .before .before .before .before .before .before .before .before .before .before .args .c) (now (c .before .before .before .before .before .before .before .before .before .before .before .before .before .before .before .args .ks))) (now (c .before .before .before .before .before .before .before .before .before .before .before .before .before .before .before .args .iv))) (i + 1))))) _ (c .before .before .before .before .before .before .before .ctr-gammas .last .1 .1 .1 .1 .1 .1 .0)) (c .before .before .before .before .before .before .before .before .blocks-of .ensures) (c .before .before .before .before .before .before .before .ctr-gammas .ensures)) (c .before .before .before .before .before .before .before .before .before .before .before .before .before .before .before .pre .7) (c .before .before .add-front .ensures)
 

@@ -7,27 +7,21 @@ use borrow.Author.Needs.{needs}
 use Rattle.ctr_mode.proofs.ctr_gammas.Statement.{statement}
 use Rattle.ctr_mode.proofs.ctr_gammas.Tie as tie
 
--- src/lib.rt:92:5
 seal-bytes-requires : tie.Need-seal-bytes-requires
 seal-bytes-requires c κs = (c .before .before .before .before .before .pre .0, c .before .before .before .before .before .pre .1, c .before .before .before .before .before .pre .2, c .before .before .before .before .before .pre .3, c .before .before .before .before .before .pre .4, c .before .before .before .before .before .pre .5, c .before .before .before .before .before .pre .6)
 
--- src/lib.rt:93:5
 counters-requires : tie.Need-counters-requires
 counters-requires c κs = (omega (arith, c .before .before .before .before .seal-bytes .kept .1 .1 .1 .1 .1 .0, c .before .before .before .before .before .before .before .before .before .before .pre .6), c .before .before .before .before .before .before .before .before .before .before .pre .7, c .before .before .before .before .before .before .before .before .before .before .pre .1)
 
--- src/lib.rt:94:5
 seal-blocks-requires : tie.Need-seal-blocks-requires
 seal-blocks-requires c κs = (c .before .before .before .before .before .before .before .before .before .before .before .before .before .before .pre .0, c .before .before .before .before .before .before .before .before .before .before .before .before .before .before .pre .1, c .before .before .before .before .before .before .before .before .before .before .before .before .before .before .pre .2, omega (arith, c .before .before .before .counters .ensures .long, c .before .before .before .before .before .before .before .before .before .before .before .before .before .before .pre .7), c .before .before .before .before .before .before .before .before .before .before .before .before .before .before .pre .4, c .before .before .before .before .before .before .before .before .before .before .before .before .before .before .pre .3)
 
--- src/lib.rt:88:1
 same-length : tie.Need-same-length
 same-length c = search needs
 
--- src/lib.rt:88:1
 same-length-2 : tie.Need-same-length-2
 same-length-2 c = search needs
 
--- src/lib.rt:88:1
 returns : tie.Need-returns
 returns c = modes.counters-sealed (c .before .before .before .before .before .before .before .before .before .before .before .before .before .before .before .before .before .args .c) (c .before .before .before .before .before .before .before .before .before .before .before .before .before .before .before .before .before .args .t) (keysOf (c .before .before .before .before .before .before .before .before .before .before .before .before .before .before .before .before .before .args .c) (now (c .before .before .before .before .before .before .before .before .before .before .before .before .before .before .before .before .before .args .ks))) (c .before .before .before .before .before .before .before .before .before .before .before .before .before .before .before .before .before .args .n) (now (c .before .before .before .before .before .before .before .before .before .before .before .before .before .before .before .before .before .args .iv)) (c .before .before .before .before .before .before .before .before .before .before .before .seal-bytes .last .1 .1 .1 .1 .1 .0) (now (c .before .before .before .before .before .before .before .before .before .before .before .before .before .before .before .before .before .args .s)) (c .before .before .before .before .before .before .counters .last .1 .0) (c .before .before .seal-blocks .last .1 .0) (c .before .before .before .before .before .before .before .before .before .before .before .seal-bytes .ensures) (c .before .before .before .before .before .before .counters .ensures) (c .before .before .seal-blocks .ensures)
 

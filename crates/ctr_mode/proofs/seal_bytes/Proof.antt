@@ -8,19 +8,15 @@ use borrow.Author.Needs.{needs}
 use Rattle.ctr_mode.proofs.seal_bytes.Statement.{statement}
 use Rattle.ctr_mode.proofs.seal_bytes.Tie as tie
 
--- src/lib.rt:41:5
 load-requires : tie.Need-load-requires
 load-requires c κs = search needs
 
--- src/lib.rt:42:5
 seal-blocks-requires : tie.Need-seal-blocks-requires
 seal-blocks-requires c κs = search needs
 
--- src/lib.rt:37:1
 same-length : tie.Need-same-length
 same-length c = search needs
 
--- src/lib.rt:37:1
 returns : tie.Need-returns
 returns c = modes.loaded-walked (c .before .before .before .before .before .before .before .before .before .before .before .args .c) (seal (c .before .before .before .before .before .before .before .before .before .before .before .args .c) (c .before .before .before .before .before .before .before .before .before .before .before .args .t) (keysOf (c .before .before .before .before .before .before .before .before .before .before .before .args .c) (now (c .before .before .before .before .before .before .before .before .before .before .before .args .ks)))) (now (c .before .before .before .before .before .before .before .before .before .before .before .args .e)) (c .before .before .before .before .before .before .load .last .0) (c .before .before .seal-blocks .last .1 .0) (now (c .before .before .before .before .before .before .before .before .before .before .before .args .b)) (λ n. omega (arith, c .before .before .before .before .before .before .before .before .before .shared-slice-known2 .given n)) (c .before .before .before .before .before .before .before .before .before .before .before .pre .6) (c .before .before .before .before .before .before .load .ensures) (c .before .before .seal-blocks .ensures)
 

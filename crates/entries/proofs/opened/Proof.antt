@@ -12,47 +12,36 @@ use Rattle.seal_table.proofs.table.Reads as table-reads′
 use Rattle.substitutions.proofs.backward.Reads as backward-reads
 use Rattle.substitutions.proofs.forward.Reads as forward-reads
 
--- src/lib.rt:29:11
 judge-requires : tie.Need-judge-requires
 judge-requires c κs = search needs
 
--- src/lib.rt:30:25
 enum-known-m : tie.Need-enum-known-m
 enum-known-m c = search needs
 
--- src/lib.rt:31:22
 enum-known-s : tie.Need-enum-known-s
 enum-known-s c = search needs
 
--- src/lib.rt:32:23
 table-requires : tie.Need-table-requires
 table-requires c κs = search needs
 
--- src/lib.rt:33:24
 table-requires-2 : tie.Need-table-requires-2
 table-requires-2 c κs = search needs
 
--- src/lib.rt:34:21
 forward-requires : tie.Need-forward-requires
 forward-requires c κs = search needs
 
--- src/lib.rt:35:21
 backward-requires : tie.Need-backward-requires
 backward-requires c κs = search needs
 
--- src/lib.rt:36:13
 open-call-requires : tie.Need-open-call-requires
 open-call-requires c κs = (record { sealing = λ _. c .before .before .before .before .before .before .before .before .table .ensures; opening = λ _. c .before .before .before .before .before .before .before .table2 .ensures; forward = λ _. c .before .before .before .before .before .before .forward .ensures; backward = λ _. c .before .before .before .before .before .backward .ensures }, c .before .before .before .before .before .before .before .before .before .before .before .before .before .before .before .before .before .pre, ways.cleared (callOf (c .before .before .before .before .before .before .before .before .before .before .before .before .before .before .before .before .before .args .f)) (c .before .before .before .before .before .before .before .before .before .before .before .before .before .before .before .before .before .args .n) (c .before .before .before .before .before .before .before .before .before .before .before .before .before .before .before .before .before .args .key .now) (c .before .before .before .before .before .before .before .before .before .before .before .before .before .before .before .before .before .args .side .now) (c .before .before .before .before .before .before .before .before .before .before .before .before .before .before .before .before .before .args .text .now) (c .before .before .before .before .before .before .before .before .before .before .before .before .before .before .before .before .before .args .out .now) (c .before .before .before .before .before .before .before .before .before .before .before .before .judge .result) (c .before .before .before .before .before .before .before .before .before .before .before .before .judge .ensures) (c .before .before .before .before .before .before .before .before .before .before .s .given .0 .0) (c .before .before .before .before .before .before .before .before .before .before .s .given .1))
 
--- src/lib.rt:25:1
 returns : tie.Need-returns
 returns c = ways.told-refused (callOf (c .before .before .before .before .before .before .before .before .args .f)) (c .before .before .before .before .before .before .before .before .args .n) (c .before .before .before .before .before .before .before .before .args .key .now) (c .before .before .before .before .before .before .before .before .args .side .now) (c .before .before .before .before .before .before .before .before .args .text .now) (c .before .before .before .before .before .before .before .before .args .out .now) (c .before .before .before .judge .result) (c .before .before .before .judge .ensures) (c .before .m .given .0 .0) (c .before .m .given .1)
 
--- src/lib.rt:25:1
 same-length : tie.Need-same-length
 same-length c = search needs
 
--- src/lib.rt:25:1
 returns-2 : tie.Need-returns-2
 returns-2 c = ways.told-made (callOf (c .before .before .before .before .before .before .before .before .before .before .before .before .before .before .before .before .before .before .before .before .args .f)) (c .before .before .before .before .before .before .before .before .before .before .before .before .before .before .before .before .before .before .before .before .args .n) (c .before .before .before .before .before .before .before .before .before .before .before .before .before .before .before .before .before .before .before .before .args .key .now) (c .before .before .before .before .before .before .before .before .before .before .before .before .before .before .before .before .before .before .before .before .args .side .now) (c .before .before .before .before .before .before .before .before .before .before .before .before .before .before .before .before .before .before .before .before .args .text .now) (c .before .before .before .before .before .before .before .before .before .before .before .before .before .before .before .before .before .before .before .before .args .out .now) (c .before .before .before .before .before .before .before .before .before .before .before .before .before .before .before .judge .result) (c .before .before .before .before .before .before .before .before .before .before .before .before .before .before .before .judge .ensures) (c .before .before .before .before .before .before .before .before .before .before .before .before .before .s .given .0 .0) _ (c .before .before .before .before .before .before .before .before .before .before .before .before .before .s .given .1) (c .before .before .open-call .ensures)
 

@@ -9,35 +9,27 @@ use Rattle.judging.proofs.judge.Reads as judge-reads
 use Rattle.seal_table.proofs.table.Reads as table-reads
 use Rattle.sealings.proofs.seal_call.Reads as seal-call-reads
 
--- src/lib.rt:15:11
 judge-requires : tie.Need-judge-requires
 judge-requires c κs = search needs
 
--- src/lib.rt:16:25
 enum-known-m : tie.Need-enum-known-m
 enum-known-m c = search needs
 
--- src/lib.rt:17:22
 enum-known-s : tie.Need-enum-known-s
 enum-known-s c = search needs
 
--- src/lib.rt:18:23
 table-requires : tie.Need-table-requires
 table-requires c κs = search needs
 
--- src/lib.rt:19:24
 seal-call-requires : tie.Need-seal-call-requires
 seal-call-requires c κs = (c .before .before .table .ensures, c .before .before .before .before .before .before .before .before .before .before .before .pre, ways.cleared (callOf (c .before .before .before .before .before .before .before .before .before .before .before .args .f)) (c .before .before .before .before .before .before .before .before .before .before .before .args .n) (c .before .before .before .before .before .before .before .before .before .before .before .args .key .now) (c .before .before .before .before .before .before .before .before .before .before .before .args .side .now) (c .before .before .before .before .before .before .before .before .before .before .before .args .text .now) (c .before .before .before .before .before .before .before .before .before .before .before .args .out .now) (c .before .before .before .before .before .before .judge .result) (c .before .before .before .before .before .before .judge .ensures) (c .before .before .before .before .s .given .0 .0) (c .before .before .before .before .s .given .1))
 
--- src/lib.rt:11:1
 returns : tie.Need-returns
 returns c = ways.told-refused (callOf (c .before .before .before .before .before .before .before .before .args .f)) (c .before .before .before .before .before .before .before .before .args .n) (c .before .before .before .before .before .before .before .before .args .key .now) (c .before .before .before .before .before .before .before .before .args .side .now) (c .before .before .before .before .before .before .before .before .args .text .now) (c .before .before .before .before .before .before .before .before .args .out .now) (c .before .before .before .judge .result) (c .before .before .before .judge .ensures) (c .before .m .given .0 .0) (c .before .m .given .1)
 
--- src/lib.rt:11:1
 same-length : tie.Need-same-length
 same-length c = search needs
 
--- src/lib.rt:11:1
 returns-2 : tie.Need-returns-2
 returns-2 c = ways.told-made (callOf (c .before .before .before .before .before .before .before .before .before .before .before .before .before .before .args .f)) (c .before .before .before .before .before .before .before .before .before .before .before .before .before .before .args .n) (c .before .before .before .before .before .before .before .before .before .before .before .before .before .before .args .key .now) (c .before .before .before .before .before .before .before .before .before .before .before .before .before .before .args .side .now) (c .before .before .before .before .before .before .before .before .before .before .before .before .before .before .args .text .now) (c .before .before .before .before .before .before .before .before .before .before .before .before .before .before .args .out .now) (c .before .before .before .before .before .before .before .before .before .judge .result) (c .before .before .before .before .before .before .before .before .before .judge .ensures) (c .before .before .before .before .before .before .before .s .given .0 .0) _ (c .before .before .before .before .before .before .before .s .given .1) (c .before .before .seal-call .ensures)
 

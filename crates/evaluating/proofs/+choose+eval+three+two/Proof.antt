@@ -66,7 +66,6 @@ two-at t = and 6 two-kinds.ps (is 6 two-kinds.ps μ-two t) two.Pre
 abbrev two-below : ℕ → In 6 two-kinds.ps
 two-below t = and 6 two-kinds.ps (falls 6 two-kinds.ps _<_ μ-two t) two.Pre
 
--- src/lib.rt:106:17
 choose-add-first : (t : ℕ) → choose-lts.Need-add-first (
   after-reads.Asked,
   after-reads.Learnt,
@@ -77,7 +76,6 @@ choose-add-first : (t : ℕ) → choose-lts.Need-add-first (
 ) (choose-at t) choose.Post
 choose-add-first t c = omega (arith, ready-head (c .before .before .before .args .image .now) (c .before .before .before .args .list .now) (c .before .before .before .args .tab .now) (c .before .before .before .args .back .now) (c .before .before .before .args .p .now) (c .before .before .before .args .u .now) (c .before .before .before .args .start) (c .before .before .before .args .end) (c .before .before .before .args .o) (length (c .before .before .before .args .work .now)) (c .before .before .before .pre .1 .0))
 
--- src/lib.rt:107:9
 choose-after-requires : (t : ℕ) → choose-lts.Need-after-requires (
   after-reads.Asked,
   after-reads.Learnt,
@@ -88,7 +86,6 @@ choose-after-requires : (t : ℕ) → choose-lts.Need-after-requires (
 ) (choose-at t) choose.Post
 choose-after-requires t c κs = when-after (c .before .before .before .args .image .now) (c .before .before .before .args .list .now) (c .before .before .before .args .tab .now) (c .before .before .before .args .back .now) (c .before .before .before .args .p .now) (c .before .before .before .args .u .now) (c .before .before .before .args .start) (c .before .before .before .args .end) (c .before .before .before .args .o) (length (c .before .before .before .args .work .now)) (c .before .before .before .pre .1 .0) (c .before .before .before .pre .1 .1)
 
--- src/lib.rt:108:9
 choose-after-requires-2 : (t : ℕ) → choose-lts.Need-after-requires-2 (
   after-reads.Asked,
   after-reads.Learnt,
@@ -99,7 +96,6 @@ choose-after-requires-2 : (t : ℕ) → choose-lts.Need-after-requires-2 (
 ) (choose-at t) choose.Post
 choose-after-requires-2 t c κs = when-after-2 (c .before .before .before .before .args .image .now) (c .before .before .before .before .args .list .now) (c .before .before .before .before .args .tab .now) (c .before .before .before .before .args .back .now) (c .before .before .before .before .args .p .now) (c .before .before .before .before .args .u .now) (c .before .before .before .before .args .start) (c .before .before .before .before .args .end) (c .before .before .before .before .args .o) (length (c .before .before .before .before .args .work .now)) (c .before .before .before .before .pre .1 .0) (c .before .before .before .before .pre .1 .1) (c .after .result) (c .after .ensures)
 
--- src/lib.rt:109:11
 choose-eval-requires : (t : ℕ) → choose-lts.Need-eval-requires (
   after-reads.Asked,
   after-reads.Learnt,
@@ -110,7 +106,6 @@ choose-eval-requires : (t : ℕ) → choose-lts.Need-eval-requires (
 ) (choose-at t) choose.Post
 choose-eval-requires t c κs = (omega (arith, when-between (c .before .before .before .before .before .before .args .image .now) (c .before .before .before .before .before .before .args .list .now) (c .before .before .before .before .before .before .args .tab .now) (c .before .before .before .before .before .before .args .back .now) (c .before .before .before .before .before .before .args .p .now) (c .before .before .before .before .before .before .args .u .now) (c .before .before .before .before .before .before .args .start) (c .before .before .before .before .before .before .args .end) (c .before .before .before .before .before .before .args .o) (length (c .before .before .before .before .before .before .args .work .now)) (c .before .before .before .before .before .before .pre .1 .0) (c .before .before .before .before .before .before .pre .1 .1) (c .before .before .after .result) (c .before .before .after .ensures) (c .before .after2 .result) (c .before .after2 .ensures), ready-order (c .before .before .before .before .before .before .args .image .now) (c .before .before .before .before .before .before .args .list .now) (c .before .before .before .before .before .before .args .tab .now) (c .before .before .before .before .before .before .args .back .now) (c .before .before .before .before .before .before .args .p .now) (c .before .before .before .before .before .before .args .u .now) (c .before .before .before .before .before .before .args .start) (c .before .before .before .before .before .before .args .end) (c .before .before .before .before .before .before .args .o) (length (c .before .before .before .before .before .before .args .work .now)) (c .before .before .before .before .before .before .pre .1 .0), c .before .before .before .before .before .before .pre .0), when-condition (c .before .before .before .before .before .before .args .image .now) (c .before .before .before .before .before .before .args .list .now) (c .before .before .before .before .before .before .args .tab .now) (c .before .before .before .before .before .before .args .back .now) (c .before .before .before .before .before .before .args .p .now) (c .before .before .before .before .before .before .args .u .now) (c .before .before .before .before .before .before .args .start) (c .before .before .before .before .before .before .args .end) (c .before .before .before .before .before .before .args .o) (length (c .before .before .before .before .before .before .args .work .now)) (c .before .before .before .before .before .before .pre .1 .0) (c .before .before .before .before .before .before .pre .1 .1) (c .before .before .after .result) (c .before .before .after .ensures) (c .before .after2 .result) (c .before .after2 .ensures))
 
--- src/lib.rt:110:23
 choose-enum-known-n : (t : ℕ) → choose-lts.Need-enum-known-n (
   after-reads.Asked,
   after-reads.Learnt,
@@ -121,7 +116,6 @@ choose-enum-known-n : (t : ℕ) → choose-lts.Need-enum-known-n (
 ) (choose-at t) choose.Post
 choose-enum-known-n t c = search needs
 
--- src/lib.rt:111:20
 choose-enum-known-n-2 : (t : ℕ) → choose-lts.Need-enum-known-n-2 (
   after-reads.Asked,
   after-reads.Learnt,
@@ -132,7 +126,6 @@ choose-enum-known-n-2 : (t : ℕ) → choose-lts.Need-enum-known-n-2 (
 ) (choose-at t) choose.Post
 choose-enum-known-n-2 t c = search needs
 
--- src/lib.rt:112:17
 choose-side-requires : (t : ℕ) → choose-lts.Need-side-requires (
   after-reads.Asked,
   after-reads.Learnt,
@@ -143,7 +136,6 @@ choose-side-requires : (t : ℕ) → choose-lts.Need-side-requires (
 ) (choose-at t) choose.Post
 choose-side-requires t c κs = omega (arith, told-small (c .before .before .before .before .before .before .before .before .before .before .before .before .before .args .image .now) (c .before .before .before .before .before .before .before .before .before .before .before .before .before .args .list .now) (c .before .before .before .before .before .before .before .before .before .before .before .before .before .args .tab .now) (c .before .before .before .before .before .before .before .before .before .before .before .before .before .args .back .now) (c .before .before .before .before .before .before .before .before .before .before .before .before .before .args .p .now) (c .before .before .before .before .before .before .before .before .before .before .before .before .before .args .u .now) ((c .before .before .before .before .before .before .before .before .before .before .before .before .before .args .start) + 4) (c .before .before .before .before .before .before .before .before .before .after .result) (c .before .before .before .before .before .before .before .before .before .before .before .before .before .args .o) (c .before .before .before .before .before .before .before .before .before .before .before .before .before .args .o) (length (c .before .before .before .before .before .before .before .before .before .before .before .before .before .args .work .now)) (c .before .before .n2 .given .0 .0) _ _ (c .before .before .before .before .before .before .eval .result) (when-condition (c .before .before .before .before .before .before .before .before .before .before .before .before .before .args .image .now) (c .before .before .before .before .before .before .before .before .before .before .before .before .before .args .list .now) (c .before .before .before .before .before .before .before .before .before .before .before .before .before .args .tab .now) (c .before .before .before .before .before .before .before .before .before .before .before .before .before .args .back .now) (c .before .before .before .before .before .before .before .before .before .before .before .before .before .args .p .now) (c .before .before .before .before .before .before .before .before .before .before .before .before .before .args .u .now) (c .before .before .before .before .before .before .before .before .before .before .before .before .before .args .start) (c .before .before .before .before .before .before .before .before .before .before .before .before .before .args .end) (c .before .before .before .before .before .before .before .before .before .before .before .before .before .args .o) (length (c .before .before .before .before .before .before .before .before .before .before .before .before .before .args .work .now)) (c .before .before .before .before .before .before .before .before .before .before .before .before .before .pre .1 .0) (c .before .before .before .before .before .before .before .before .before .before .before .before .before .pre .1 .1) (c .before .before .before .before .before .before .before .before .before .after .result) (c .before .before .before .before .before .before .before .before .before .after .ensures) (c .before .before .before .before .before .before .before .before .after2 .result) (c .before .before .before .before .before .before .before .before .after2 .ensures)) (c .before .before .before .before .before .before .eval .ensures) (c .before .before .n2 .given .1), ready-slot (c .before .before .before .before .before .before .before .before .before .before .before .before .before .args .image .now) (c .before .before .before .before .before .before .before .before .before .before .before .before .before .args .list .now) (c .before .before .before .before .before .before .before .before .before .before .before .before .before .args .tab .now) (c .before .before .before .before .before .before .before .before .before .before .before .before .before .args .back .now) (c .before .before .before .before .before .before .before .before .before .before .before .before .before .args .p .now) (c .before .before .before .before .before .before .before .before .before .before .before .before .before .args .u .now) (c .before .before .before .before .before .before .before .before .before .before .before .before .before .args .start) (c .before .before .before .before .before .before .before .before .before .before .before .before .before .args .end) (c .before .before .before .before .before .before .before .before .before .before .before .before .before .args .o) (length (c .before .before .before .before .before .before .before .before .before .before .before .before .before .args .work .now)) (c .before .before .before .before .before .before .before .before .before .before .before .before .before .pre .1 .0), c .before .before .before .before .before .before .eval .kept .1 .1 .1 .1 .1 .1 .1 .1 .0)
 
--- src/lib.rt:114:17
 choose-eval-requires-2 : (t : ℕ) → choose-lts.Need-eval-requires-2 (
   after-reads.Asked,
   after-reads.Learnt,
@@ -154,7 +146,6 @@ choose-eval-requires-2 : (t : ℕ) → choose-lts.Need-eval-requires-2 (
 ) (choose-at t) choose.Post
 choose-eval-requires-2 t c κs = (omega (arith, when-between (c .before .before .before .before .before .before .before .before .before .before .before .before .before .before .before .before .args .image .now) (c .before .before .before .before .before .before .before .before .before .before .before .before .before .before .before .before .args .list .now) (c .before .before .before .before .before .before .before .before .before .before .before .before .before .before .before .before .args .tab .now) (c .before .before .before .before .before .before .before .before .before .before .before .before .before .before .before .before .args .back .now) (c .before .before .before .before .before .before .before .before .before .before .before .before .before .before .before .before .args .p .now) (c .before .before .before .before .before .before .before .before .before .before .before .before .before .before .before .before .args .u .now) (c .before .before .before .before .before .before .before .before .before .before .before .before .before .before .before .before .args .start) (c .before .before .before .before .before .before .before .before .before .before .before .before .before .before .before .before .args .end) (c .before .before .before .before .before .before .before .before .before .before .before .before .before .before .before .before .args .o) (length (c .before .before .before .before .before .before .before .before .before .before .before .before .before .before .before .before .args .work .now)) (c .before .before .before .before .before .before .before .before .before .before .before .before .before .before .before .before .pre .1 .0) (c .before .before .before .before .before .before .before .before .before .before .before .before .before .before .before .before .pre .1 .1) (c .before .before .before .before .before .before .before .before .before .before .before .before .after .result) (c .before .before .before .before .before .before .before .before .before .before .before .before .after .ensures) (c .before .before .before .before .before .before .before .before .before .before .before .after2 .result) (c .before .before .before .before .before .before .before .before .before .before .before .after2 .ensures), ready-order (c .before .before .before .before .before .before .before .before .before .before .before .before .before .before .before .before .args .image .now) (c .before .before .before .before .before .before .before .before .before .before .before .before .before .before .before .before .args .list .now) (c .before .before .before .before .before .before .before .before .before .before .before .before .before .before .before .before .args .tab .now) (c .before .before .before .before .before .before .before .before .before .before .before .before .before .before .before .before .args .back .now) (c .before .before .before .before .before .before .before .before .before .before .before .before .before .before .before .before .args .p .now) (c .before .before .before .before .before .before .before .before .before .before .before .before .before .before .before .before .args .u .now) (c .before .before .before .before .before .before .before .before .before .before .before .before .before .before .before .before .args .start) (c .before .before .before .before .before .before .before .before .before .before .before .before .before .before .before .before .args .end) (c .before .before .before .before .before .before .before .before .before .before .before .before .before .before .before .before .args .o) (length (c .before .before .before .before .before .before .before .before .before .before .before .before .before .before .before .before .args .work .now)) (c .before .before .before .before .before .before .before .before .before .before .before .before .before .before .before .before .pre .1 .0), c .before .before .before .before .before .before .before .before .before .before .before .before .before .before .before .before .pre .0), ready-in (c .before .before .before .before .before .before .before .before .before .before .before .before .before .before .before .before .args .image .now) (c .before .before .before .before .before .before .before .before .before .before .before .before .before .before .before .before .args .list .now) (c .before .before .before .before .before .before .before .before .before .before .before .before .before .before .before .before .args .tab .now) (c .before .before .before .before .before .before .before .before .before .before .before .before .before .before .before .before .args .back .now) (c .before .before .before .before .before .before .before .before .before .before .before .before .before .before .before .before .args .p .now) (c .before .before .before .before .before .before .before .before .before .before .before .before .before .before .before .before .args .u .now) (c .before .before .before .before .before .before .before .before .before .before .before .before .after .result) (c .before .before .before .before .before .before .before .before .before .before .before .after2 .result) (c .before .before .before .before .before .before .before .before .before .before .before .before .before .before .before .before .args .o) (length (c .before .before .before .before .before .before .before .before .before .before .before .before .before .before .before .before .args .work .now)) _ (c .before .before .before .before .before .before .before .before .before .eval .kept .1 .1 .1 .1 .1 .1 .1 .1 .0) (when-first (c .before .before .before .before .before .before .before .before .before .before .before .before .before .before .before .before .args .image .now) (c .before .before .before .before .before .before .before .before .before .before .before .before .before .before .before .before .args .list .now) (c .before .before .before .before .before .before .before .before .before .before .before .before .before .before .before .before .args .tab .now) (c .before .before .before .before .before .before .before .before .before .before .before .before .before .before .before .before .args .back .now) (c .before .before .before .before .before .before .before .before .before .before .before .before .before .before .before .before .args .p .now) (c .before .before .before .before .before .before .before .before .before .before .before .before .before .before .before .before .args .u .now) (c .before .before .before .before .before .before .before .before .before .before .before .before .before .before .before .before .args .start) (c .before .before .before .before .before .before .before .before .before .before .before .before .before .before .before .before .args .end) (c .before .before .before .before .before .before .before .before .before .before .before .before .before .before .before .before .args .o) (length (c .before .before .before .before .before .before .before .before .before .before .before .before .before .before .before .before .args .work .now)) (c .before .before .before .before .before .before .before .before .before .before .before .before .before .before .before .before .pre .1 .0) (c .before .before .before .before .before .before .before .before .before .before .before .before .before .before .before .before .pre .1 .1) (c .before .before .before .before .before .before .before .before .before .before .before .before .after .result) (c .before .before .before .before .before .before .before .before .before .before .before .before .after .ensures) (c .before .before .before .before .before .before .before .before .before .before .before .after2 .result) (c .before .before .before .before .before .before .before .before .before .before .before .after2 .ensures)))
 
--- src/lib.rt:114:17
 choose-same-length : (t : ℕ) → choose-lts.Need-same-length (
   after-reads.Asked,
   after-reads.Learnt,
@@ -165,7 +156,6 @@ choose-same-length : (t : ℕ) → choose-lts.Need-same-length (
 ) (choose-at t) choose.Post
 choose-same-length t c = search needs
 
--- src/lib.rt:114:17
 choose-returns : (t : ℕ) → choose-lts.Need-returns (
   after-reads.Asked,
   after-reads.Learnt,
@@ -176,7 +166,6 @@ choose-returns : (t : ℕ) → choose-lts.Need-returns (
 ) (choose-at t) choose.Post
 choose-returns t c = when-took-first (c .before .before .before .before .before .before .before .before .before .before .before .before .before .before .before .before .before .before .before .args .image .now) (c .before .before .before .before .before .before .before .before .before .before .before .before .before .before .before .before .before .before .before .args .list .now) (c .before .before .before .before .before .before .before .before .before .before .before .before .before .before .before .before .before .before .before .args .start) (c .before .before .before .before .before .before .before .before .before .before .before .before .before .before .before .before .before .before .before .args .end) (c .before .before .before .before .before .before .before .before .before .before .before .before .before .before .before .before .before .before .before .args .o) (c .before .before .before .before .before .before .before .before .before .before .before .before .before .before .before .before .before .before .before .pre .1 .1) (c .before .before .before .before .before .before .before .before .before .before .before .before .before .before .before .after .result) (c .before .before .before .before .before .before .before .before .before .before .before .before .before .before .before .after .ensures) (c .before .before .before .before .before .before .before .before .before .before .before .before .before .before .after2 .result) (c .before .before .before .before .before .before .before .before .before .before .before .before .before .before .after2 .ensures) (c .before .before .before .before .before .before .before .before .before .before .before .before .before .before .before .before .before .before .before .args .work .now) _ (c .before .before .before .before .before .before .before .before .before .before .before .before .eval .result) (c .before .before .before .before .before .before .before .before .before .before .before .before .eval .ensures) (c .before .before .before .before .before .before .before .before .n2 .given .0 .0) (c .before .before .before .before .before .side .result) (c .before .before .before .before .before .before .before .before .n2 .given .1) (c .before .before .before .before .before .side .ensures) (c .before .before .before .before .if1 .taken) _ (c .before .before .eval2 .result) (c .before .before .eval2 .ensures)
 
--- src/lib.rt:117:17
 choose-eval-requires-3 : (t : ℕ) → choose-lts.Need-eval-requires-3 (
   after-reads.Asked,
   after-reads.Learnt,
@@ -187,7 +176,6 @@ choose-eval-requires-3 : (t : ℕ) → choose-lts.Need-eval-requires-3 (
 ) (choose-at t) choose.Post
 choose-eval-requires-3 t c κs = (omega (arith, when-between (c .before .before .before .before .before .before .before .before .before .before .before .before .before .before .before .before .before .args .image .now) (c .before .before .before .before .before .before .before .before .before .before .before .before .before .before .before .before .before .args .list .now) (c .before .before .before .before .before .before .before .before .before .before .before .before .before .before .before .before .before .args .tab .now) (c .before .before .before .before .before .before .before .before .before .before .before .before .before .before .before .before .before .args .back .now) (c .before .before .before .before .before .before .before .before .before .before .before .before .before .before .before .before .before .args .p .now) (c .before .before .before .before .before .before .before .before .before .before .before .before .before .before .before .before .before .args .u .now) (c .before .before .before .before .before .before .before .before .before .before .before .before .before .before .before .before .before .args .start) (c .before .before .before .before .before .before .before .before .before .before .before .before .before .before .before .before .before .args .end) (c .before .before .before .before .before .before .before .before .before .before .before .before .before .before .before .before .before .args .o) (length (c .before .before .before .before .before .before .before .before .before .before .before .before .before .before .before .before .before .args .work .now)) (c .before .before .before .before .before .before .before .before .before .before .before .before .before .before .before .before .before .pre .1 .0) (c .before .before .before .before .before .before .before .before .before .before .before .before .before .before .before .before .before .pre .1 .1) (c .before .before .before .before .before .before .before .before .before .before .before .before .before .after .result) (c .before .before .before .before .before .before .before .before .before .before .before .before .before .after .ensures) (c .before .before .before .before .before .before .before .before .before .before .before .before .after2 .result) (c .before .before .before .before .before .before .before .before .before .before .before .before .after2 .ensures), ready-order (c .before .before .before .before .before .before .before .before .before .before .before .before .before .before .before .before .before .args .image .now) (c .before .before .before .before .before .before .before .before .before .before .before .before .before .before .before .before .before .args .list .now) (c .before .before .before .before .before .before .before .before .before .before .before .before .before .before .before .before .before .args .tab .now) (c .before .before .before .before .before .before .before .before .before .before .before .before .before .before .before .before .before .args .back .now) (c .before .before .before .before .before .before .before .before .before .before .before .before .before .before .before .before .before .args .p .now) (c .before .before .before .before .before .before .before .before .before .before .before .before .before .before .before .before .before .args .u .now) (c .before .before .before .before .before .before .before .before .before .before .before .before .before .before .before .before .before .args .start) (c .before .before .before .before .before .before .before .before .before .before .before .before .before .before .before .before .before .args .end) (c .before .before .before .before .before .before .before .before .before .before .before .before .before .before .before .before .before .args .o) (length (c .before .before .before .before .before .before .before .before .before .before .before .before .before .before .before .before .before .args .work .now)) (c .before .before .before .before .before .before .before .before .before .before .before .before .before .before .before .before .before .pre .1 .0), c .before .before .before .before .before .before .before .before .before .before .before .before .before .before .before .before .before .pre .0), ready-in (c .before .before .before .before .before .before .before .before .before .before .before .before .before .before .before .before .before .args .image .now) (c .before .before .before .before .before .before .before .before .before .before .before .before .before .before .before .before .before .args .list .now) (c .before .before .before .before .before .before .before .before .before .before .before .before .before .before .before .before .before .args .tab .now) (c .before .before .before .before .before .before .before .before .before .before .before .before .before .before .before .before .before .args .back .now) (c .before .before .before .before .before .before .before .before .before .before .before .before .before .before .before .before .before .args .p .now) (c .before .before .before .before .before .before .before .before .before .before .before .before .before .before .before .before .before .args .u .now) (c .before .before .before .before .before .before .before .before .before .before .before .before .after2 .result) (c .before .before .before .before .before .before .before .before .before .before .before .before .before .before .before .before .before .args .end) (c .before .before .before .before .before .before .before .before .before .before .before .before .before .before .before .before .before .args .o) (length (c .before .before .before .before .before .before .before .before .before .before .before .before .before .before .before .before .before .args .work .now)) _ (c .before .before .before .before .before .before .before .before .before .before .eval .kept .1 .1 .1 .1 .1 .1 .1 .1 .0) (when-second (c .before .before .before .before .before .before .before .before .before .before .before .before .before .before .before .before .before .args .image .now) (c .before .before .before .before .before .before .before .before .before .before .before .before .before .before .before .before .before .args .list .now) (c .before .before .before .before .before .before .before .before .before .before .before .before .before .before .before .before .before .args .tab .now) (c .before .before .before .before .before .before .before .before .before .before .before .before .before .before .before .before .before .args .back .now) (c .before .before .before .before .before .before .before .before .before .before .before .before .before .before .before .before .before .args .p .now) (c .before .before .before .before .before .before .before .before .before .before .before .before .before .before .before .before .before .args .u .now) (c .before .before .before .before .before .before .before .before .before .before .before .before .before .before .before .before .before .args .start) (c .before .before .before .before .before .before .before .before .before .before .before .before .before .before .before .before .before .args .end) (c .before .before .before .before .before .before .before .before .before .before .before .before .before .before .before .before .before .args .o) (length (c .before .before .before .before .before .before .before .before .before .before .before .before .before .before .before .before .before .args .work .now)) (c .before .before .before .before .before .before .before .before .before .before .before .before .before .before .before .before .before .pre .1 .0) (c .before .before .before .before .before .before .before .before .before .before .before .before .before .before .before .before .before .pre .1 .1) (c .before .before .before .before .before .before .before .before .before .before .before .before .before .after .result) (c .before .before .before .before .before .before .before .before .before .before .before .before .before .after .ensures) (c .before .before .before .before .before .before .before .before .before .before .before .before .after2 .result) (c .before .before .before .before .before .before .before .before .before .before .before .before .after2 .ensures)))
 
--- src/lib.rt:117:17
 choose-same-length-2 : (t : ℕ) → choose-lts.Need-same-length-2 (
   after-reads.Asked,
   after-reads.Learnt,
@@ -198,7 +186,6 @@ choose-same-length-2 : (t : ℕ) → choose-lts.Need-same-length-2 (
 ) (choose-at t) choose.Post
 choose-same-length-2 t c = search needs
 
--- src/lib.rt:117:17
 choose-returns-2 : (t : ℕ) → choose-lts.Need-returns-2 (
   after-reads.Asked,
   after-reads.Learnt,
@@ -209,7 +196,6 @@ choose-returns-2 : (t : ℕ) → choose-lts.Need-returns-2 (
 ) (choose-at t) choose.Post
 choose-returns-2 t c = when-took-second (c .before .before .before .before .before .before .before .before .before .before .before .before .before .before .before .before .before .before .before .before .args .image .now) (c .before .before .before .before .before .before .before .before .before .before .before .before .before .before .before .before .before .before .before .before .args .list .now) (c .before .before .before .before .before .before .before .before .before .before .before .before .before .before .before .before .before .before .before .before .args .start) (c .before .before .before .before .before .before .before .before .before .before .before .before .before .before .before .before .before .before .before .before .args .end) (c .before .before .before .before .before .before .before .before .before .before .before .before .before .before .before .before .before .before .before .before .args .o) (c .before .before .before .before .before .before .before .before .before .before .before .before .before .before .before .before .before .before .before .before .pre .1 .1) (c .before .before .before .before .before .before .before .before .before .before .before .before .before .before .before .before .after .result) (c .before .before .before .before .before .before .before .before .before .before .before .before .before .before .before .before .after .ensures) (c .before .before .before .before .before .before .before .before .before .before .before .before .before .before .before .after2 .result) (c .before .before .before .before .before .before .before .before .before .before .before .before .before .before .before .after2 .ensures) (c .before .before .before .before .before .before .before .before .before .before .before .before .before .before .before .before .before .before .before .before .args .work .now) _ (c .before .before .before .before .before .before .before .before .before .before .before .before .before .eval .result) (c .before .before .before .before .before .before .before .before .before .before .before .before .before .eval .ensures) (c .before .before .before .before .before .before .before .before .before .n2 .given .0 .0) (c .before .before .before .before .before .before .side .result) (c .before .before .before .before .before .before .before .before .before .n2 .given .1) (c .before .before .before .before .before .before .side .ensures) (c .before .before .before .before .before .if1 .left) (c .before .before .before .before .if2 .taken) _ (c .before .before .eval3 .result) (c .before .before .eval3 .ensures)
 
--- src/lib.rt:91:1
 choose-same-length-3 : (t : ℕ) → choose-lts.Need-same-length-3 (
   after-reads.Asked,
   after-reads.Learnt,
@@ -220,7 +206,6 @@ choose-same-length-3 : (t : ℕ) → choose-lts.Need-same-length-3 (
 ) (choose-at t) choose.Post
 choose-same-length-3 t c = search needs
 
--- src/lib.rt:91:1
 choose-returns-3 : (t : ℕ) → choose-lts.Need-returns-3 (
   after-reads.Asked,
   after-reads.Learnt,
@@ -231,7 +216,6 @@ choose-returns-3 : (t : ℕ) → choose-lts.Need-returns-3 (
 ) (choose-at t) choose.Post
 choose-returns-3 t c = when-refused (c .before .before .before .before .before .before .before .before .before .before .before .before .args .image .now) (c .before .before .before .before .before .before .before .before .before .before .before .before .args .list .now) (c .before .before .before .before .before .before .before .before .before .before .before .before .args .start) (c .before .before .before .before .before .before .before .before .before .before .before .before .args .end) (c .before .before .before .before .before .before .before .before .before .before .before .before .args .o) (c .before .before .before .before .before .before .before .before .before .before .before .before .pre .1 .1) (c .before .before .before .before .before .before .before .before .after .result) (c .before .before .before .before .before .before .before .before .after .ensures) (c .before .before .before .before .before .before .before .after2 .result) (c .before .before .before .before .before .before .before .after2 .ensures) (c .before .before .before .before .before .before .before .before .before .before .before .before .args .work .now) _ (c .before .before .before .before .before .eval .result) (c .before .before .before .before .before .eval .ensures) (c .before .n .given .0 .0) (c .before .n .given .1)
 
--- src/lib.rt:91:1
 choose-same-length-4 : (t : ℕ) → choose-lts.Need-same-length-4 (
   after-reads.Asked,
   after-reads.Learnt,
@@ -242,7 +226,6 @@ choose-same-length-4 : (t : ℕ) → choose-lts.Need-same-length-4 (
 ) (choose-at t) choose.Post
 choose-same-length-4 t c = search needs
 
--- src/lib.rt:91:1
 choose-returns-4 : (t : ℕ) → choose-lts.Need-returns-4 (
   after-reads.Asked,
   after-reads.Learnt,
@@ -253,7 +236,6 @@ choose-returns-4 : (t : ℕ) → choose-lts.Need-returns-4 (
 ) (choose-at t) choose.Post
 choose-returns-4 t c = when-took-neither (c .before .before .before .before .before .before .before .before .before .before .before .before .before .before .before .before .args .image .now) (c .before .before .before .before .before .before .before .before .before .before .before .before .before .before .before .before .args .list .now) (c .before .before .before .before .before .before .before .before .before .before .before .before .before .before .before .before .args .start) (c .before .before .before .before .before .before .before .before .before .before .before .before .before .before .before .before .args .end) (c .before .before .before .before .before .before .before .before .before .before .before .before .before .before .before .before .args .o) (c .before .before .before .before .before .before .before .before .before .before .before .before .before .before .before .before .pre .1 .1) (c .before .before .before .before .before .before .before .before .before .before .before .before .after .result) (c .before .before .before .before .before .before .before .before .before .before .before .before .after .ensures) (c .before .before .before .before .before .before .before .before .before .before .before .after2 .result) (c .before .before .before .before .before .before .before .before .before .before .before .after2 .ensures) (c .before .before .before .before .before .before .before .before .before .before .before .before .before .before .before .before .args .work .now) _ (c .before .before .before .before .before .before .before .before .before .eval .result) (c .before .before .before .before .before .before .before .before .before .eval .ensures) (c .before .before .before .before .before .n2 .given .0 .0) (c .before .before .side .result) (c .before .before .before .before .before .n2 .given .1) (c .before .before .side .ensures) (c .before .if1 .left) (c .if2 .left)
 
--- src/lib.rt:77:35
 eval-add-word-at : (t : ℕ) → eval-lts.Need-add-word-at (
   word-at-reads.Asked,
   word-at-reads.Learnt,
@@ -270,7 +252,6 @@ eval-add-word-at : (t : ℕ) → eval-lts.Need-add-word-at (
 ) (eval-at t) eval.Post
 eval-add-word-at t c = omega (arith, ready-head (c .before .before .before .args .image .now) (c .before .before .before .args .list .now) (c .before .before .before .args .tab .now) (c .before .before .before .args .back .now) (c .before .before .before .args .p .now) (c .before .before .before .args .u .now) (c .before .before .before .args .start) (c .before .before .before .args .end) (c .before .before .before .args .o) (length (c .before .before .before .args .work .now)) (c .before .before .before .pre .1))
 
--- src/lib.rt:77:9
 eval-word-at-requires : (t : ℕ) → eval-lts.Need-word-at-requires (
   word-at-reads.Asked,
   word-at-reads.Learnt,
@@ -287,7 +268,6 @@ eval-word-at-requires : (t : ℕ) → eval-lts.Need-word-at-requires (
 ) (eval-at t) eval.Post
 eval-word-at-requires t c κs = omega (arith, ready-head (c .before .before .before .args .image .now) (c .before .before .before .args .list .now) (c .before .before .before .args .tab .now) (c .before .before .before .args .back .now) (c .before .before .before .args .p .now) (c .before .before .before .args .u .now) (c .before .before .before .args .start) (c .before .before .before .args .end) (c .before .before .before .args .o) (length (c .before .before .before .args .work .now)) (c .before .before .before .pre .1))
 
--- src/lib.rt:79:9
 eval-put-leaf-requires : (t : ℕ) → eval-lts.Need-put-leaf-requires (
   word-at-reads.Asked,
   word-at-reads.Learnt,
@@ -304,7 +284,6 @@ eval-put-leaf-requires : (t : ℕ) → eval-lts.Need-put-leaf-requires (
 ) (eval-at t) eval.Post
 eval-put-leaf-requires t c κs = (omega (arith, c .before .before .word-at .ensures .0, c .before .if1 .taken), ready-slot (c .before .before .before .before .before .before .args .image .now) (c .before .before .before .before .before .before .args .list .now) (c .before .before .before .before .before .before .args .tab .now) (c .before .before .before .before .before .before .args .back .now) (c .before .before .before .before .before .before .args .p .now) (c .before .before .before .before .before .before .args .u .now) (c .before .before .before .before .before .before .args .start) (c .before .before .before .before .before .before .args .end) (c .before .before .before .before .before .before .args .o) (length (c .before .before .before .before .before .before .args .work .now)) (c .before .before .before .before .before .before .pre .1))
 
--- src/lib.rt:79:9
 eval-same-length : (t : ℕ) → eval-lts.Need-same-length (
   word-at-reads.Asked,
   word-at-reads.Learnt,
@@ -321,7 +300,6 @@ eval-same-length : (t : ℕ) → eval-lts.Need-same-length (
 ) (eval-at t) eval.Post
 eval-same-length t c = search needs
 
--- src/lib.rt:79:9
 eval-returns : (t : ℕ) → eval-lts.Need-returns (
   word-at-reads.Asked,
   word-at-reads.Learnt,
@@ -338,7 +316,6 @@ eval-returns : (t : ℕ) → eval-lts.Need-returns (
 ) (eval-at t) eval.Post
 eval-returns t c = c .before .before .put-leaf .ensures
 
--- src/lib.rt:82:9
 eval-choose-requires : (t : ℕ) → eval-lts.Need-choose-requires (
   word-at-reads.Asked,
   word-at-reads.Learnt,
@@ -355,7 +332,6 @@ eval-choose-requires : (t : ℕ) → eval-lts.Need-choose-requires (
 ) (eval-at t) eval.Post
 eval-choose-requires t c κs = (omega (arith, ready-order (c .before .before .before .before .before .before .before .args .image .now) (c .before .before .before .before .before .before .before .args .list .now) (c .before .before .before .before .before .before .before .args .tab .now) (c .before .before .before .before .before .before .before .args .back .now) (c .before .before .before .before .before .before .before .args .p .now) (c .before .before .before .before .before .before .before .args .u .now) (c .before .before .before .before .before .before .before .args .start) (c .before .before .before .before .before .before .before .args .end) (c .before .before .before .before .before .before .before .args .o) (length (c .before .before .before .before .before .before .before .args .work .now)) (c .before .before .before .before .before .before .before .pre .1), c .before .before .before .before .before .before .before .pre .0), ((c .before .before .before .before .before .before .before .pre .1), sym (c .before .before .before .word-at .ensures .0) ∙ c .before .if2 .taken))
 
--- src/lib.rt:82:9
 eval-same-length-2 : (t : ℕ) → eval-lts.Need-same-length-2 (
   word-at-reads.Asked,
   word-at-reads.Learnt,
@@ -372,7 +348,6 @@ eval-same-length-2 : (t : ℕ) → eval-lts.Need-same-length-2 (
 ) (eval-at t) eval.Post
 eval-same-length-2 t c = search needs
 
--- src/lib.rt:82:9
 eval-returns-2 : (t : ℕ) → eval-lts.Need-returns-2 (
   word-at-reads.Asked,
   word-at-reads.Learnt,
@@ -389,7 +364,6 @@ eval-returns-2 : (t : ℕ) → eval-lts.Need-returns-2 (
 ) (eval-at t) eval.Post
 eval-returns-2 t c = c .before .before .choose .ensures
 
--- src/lib.rt:84:8
 eval-arguments-requires : (t : ℕ) → eval-lts.Need-arguments-requires (
   word-at-reads.Asked,
   word-at-reads.Learnt,
@@ -406,7 +380,6 @@ eval-arguments-requires : (t : ℕ) → eval-lts.Need-arguments-requires (
 ) (eval-at t) eval.Post
 eval-arguments-requires t c κs = search needs
 
--- src/lib.rt:85:9
 eval-two-requires : (t : ℕ) → eval-lts.Need-two-requires (
   word-at-reads.Asked,
   word-at-reads.Learnt,
@@ -423,7 +396,6 @@ eval-two-requires : (t : ℕ) → eval-lts.Need-two-requires (
 ) (eval-at t) eval.Post
 eval-two-requires t c κs = (omega (arith, ready-order (c .before .before .before .before .before .before .before .before .before .args .image .now) (c .before .before .before .before .before .before .before .before .before .args .list .now) (c .before .before .before .before .before .before .before .before .before .args .tab .now) (c .before .before .before .before .before .before .before .before .before .args .back .now) (c .before .before .before .before .before .before .before .before .before .args .p .now) (c .before .before .before .before .before .before .before .before .before .args .u .now) (c .before .before .before .before .before .before .before .before .before .args .start) (c .before .before .before .before .before .before .before .before .before .args .end) (c .before .before .before .before .before .before .before .before .before .args .o) (length (c .before .before .before .before .before .before .before .before .before .args .work .now)) (c .before .before .before .before .before .before .before .before .before .pre .1), c .before .before .before .before .before .before .before .before .before .pre .0), ((c .before .before .before .before .before .before .before .before .before .pre .1), sym (c .before .before .before .before .before .word-at .ensures .0), sym (c .before .before .arguments .ensures) ∙ c .before .if3 .taken))
 
--- src/lib.rt:85:9
 eval-same-length-3 : (t : ℕ) → eval-lts.Need-same-length-3 (
   word-at-reads.Asked,
   word-at-reads.Learnt,
@@ -440,7 +412,6 @@ eval-same-length-3 : (t : ℕ) → eval-lts.Need-same-length-3 (
 ) (eval-at t) eval.Post
 eval-same-length-3 t c = search needs
 
--- src/lib.rt:85:9
 eval-returns-3 : (t : ℕ) → eval-lts.Need-returns-3 (
   word-at-reads.Asked,
   word-at-reads.Learnt,
@@ -457,7 +428,6 @@ eval-returns-3 : (t : ℕ) → eval-lts.Need-returns-3 (
 ) (eval-at t) eval.Post
 eval-returns-3 t c = c .before .before .two .ensures
 
--- src/lib.rt:87:5
 eval-three-requires : (t : ℕ) → eval-lts.Need-three-requires (
   word-at-reads.Asked,
   word-at-reads.Learnt,
@@ -474,7 +444,6 @@ eval-three-requires : (t : ℕ) → eval-lts.Need-three-requires (
 ) (eval-at t) eval.Post
 eval-three-requires t c κs = (omega (arith, ready-order (c .before .before .before .before .before .before .before .before .before .args .image .now) (c .before .before .before .before .before .before .before .before .before .args .list .now) (c .before .before .before .before .before .before .before .before .before .args .tab .now) (c .before .before .before .before .before .before .before .before .before .args .back .now) (c .before .before .before .before .before .before .before .before .before .args .p .now) (c .before .before .before .before .before .before .before .before .before .args .u .now) (c .before .before .before .before .before .before .before .before .before .args .start) (c .before .before .before .before .before .before .before .before .before .args .end) (c .before .before .before .before .before .before .before .before .before .args .o) (length (c .before .before .before .before .before .before .before .before .before .args .work .now)) (c .before .before .before .before .before .before .before .before .before .pre .1), c .before .before .before .before .before .before .before .before .before .pre .0), ((c .before .before .before .before .before .before .before .before .before .pre .1), sym (c .before .before .before .before .before .word-at .ensures .0), omega (arith, c .before .before .before .before .if1 .left), c .before .before .before .if2 .left, λ q. c .before .if3 .left (c .before .before .arguments .ensures ∙ q)))
 
--- src/lib.rt:62:1
 eval-same-length-4 : (t : ℕ) → eval-lts.Need-same-length-4 (
   word-at-reads.Asked,
   word-at-reads.Learnt,
@@ -491,7 +460,6 @@ eval-same-length-4 : (t : ℕ) → eval-lts.Need-same-length-4 (
 ) (eval-at t) eval.Post
 eval-same-length-4 t c = search needs
 
--- src/lib.rt:62:1
 eval-returns-4 : (t : ℕ) → eval-lts.Need-returns-4 (
   word-at-reads.Asked,
   word-at-reads.Learnt,
@@ -508,7 +476,6 @@ eval-returns-4 : (t : ℕ) → eval-lts.Need-returns-4 (
 ) (eval-at t) eval.Post
 eval-returns-4 t c = c .before .before .three .ensures
 
--- src/lib.rt:181:17
 three-add-first : (t : ℕ) → three-lts.Need-add-first (
   after-reads.Asked,
   after-reads.Learnt,
@@ -519,7 +486,6 @@ three-add-first : (t : ℕ) → three-lts.Need-add-first (
 ) (three-at t) three.Post
 three-add-first t c = omega (arith, ready-head (c .before .before .before .args .image .now) (c .before .before .before .args .list .now) (c .before .before .before .args .tab .now) (c .before .before .before .args .back .now) (c .before .before .before .args .p .now) (c .before .before .before .args .u .now) (c .before .before .before .args .start) (c .before .before .before .args .end) (c .before .before .before .args .o) (length (c .before .before .before .args .work .now)) (c .before .before .before .pre .1 .0))
 
--- src/lib.rt:182:9
 three-after-requires : (t : ℕ) → three-lts.Need-after-requires (
   after-reads.Asked,
   after-reads.Learnt,
@@ -530,7 +496,6 @@ three-after-requires : (t : ℕ) → three-lts.Need-after-requires (
 ) (three-at t) three.Post
 three-after-requires t c κs = three-after (c .before .before .before .args .image .now) (c .before .before .before .args .list .now) (c .before .before .before .args .tab .now) (c .before .before .before .args .back .now) (c .before .before .before .args .p .now) (c .before .before .before .args .u .now) (c .before .before .before .args .start) (c .before .before .before .args .end) (c .before .before .before .args .o) (length (c .before .before .before .args .work .now)) (c .before .before .before .pre .1 .0) (c .before .before .before .args .k) (c .before .before .before .pre .1 .1) (c .before .before .before .pre .1 .2) (c .before .before .before .pre .1 .3) (c .before .before .before .pre .1 .4)
 
--- src/lib.rt:183:9
 three-after-requires-2 : (t : ℕ) → three-lts.Need-after-requires-2 (
   after-reads.Asked,
   after-reads.Learnt,
@@ -541,7 +506,6 @@ three-after-requires-2 : (t : ℕ) → three-lts.Need-after-requires-2 (
 ) (three-at t) three.Post
 three-after-requires-2 t c κs = three-after-2 (c .before .before .before .before .args .image .now) (c .before .before .before .before .args .list .now) (c .before .before .before .before .args .tab .now) (c .before .before .before .before .args .back .now) (c .before .before .before .before .args .p .now) (c .before .before .before .before .args .u .now) (c .before .before .before .before .args .start) (c .before .before .before .before .args .end) (c .before .before .before .before .args .o) (length (c .before .before .before .before .args .work .now)) (c .before .before .before .before .pre .1 .0) (c .before .before .before .before .args .k) (c .before .before .before .before .pre .1 .1) (c .before .before .before .before .pre .1 .2) (c .before .before .before .before .pre .1 .3) (c .before .before .before .before .pre .1 .4) (c .after .result) (c .after .ensures)
 
--- src/lib.rt:184:11
 three-eval-requires : (t : ℕ) → three-lts.Need-eval-requires (
   after-reads.Asked,
   after-reads.Learnt,
@@ -552,7 +516,6 @@ three-eval-requires : (t : ℕ) → three-lts.Need-eval-requires (
 ) (three-at t) three.Post
 three-eval-requires t c κs = (omega (arith, three-between (c .before .before .before .before .before .before .args .image .now) (c .before .before .before .before .before .before .args .list .now) (c .before .before .before .before .before .before .args .tab .now) (c .before .before .before .before .before .before .args .back .now) (c .before .before .before .before .before .before .args .p .now) (c .before .before .before .before .before .before .args .u .now) (c .before .before .before .before .before .before .args .start) (c .before .before .before .before .before .before .args .end) (c .before .before .before .before .before .before .args .o) (length (c .before .before .before .before .before .before .args .work .now)) (c .before .before .before .before .before .before .pre .1 .0) (c .before .before .before .before .before .before .args .k) (c .before .before .before .before .before .before .pre .1 .1) (c .before .before .before .before .before .before .pre .1 .2) (c .before .before .before .before .before .before .pre .1 .3) (c .before .before .before .before .before .before .pre .1 .4) (c .before .before .after .result) (c .before .before .after .ensures) (c .before .after2 .result) (c .before .after2 .ensures), ready-order (c .before .before .before .before .before .before .args .image .now) (c .before .before .before .before .before .before .args .list .now) (c .before .before .before .before .before .before .args .tab .now) (c .before .before .before .before .before .before .args .back .now) (c .before .before .before .before .before .before .args .p .now) (c .before .before .before .before .before .before .args .u .now) (c .before .before .before .before .before .before .args .start) (c .before .before .before .before .before .before .args .end) (c .before .before .before .before .before .before .args .o) (length (c .before .before .before .before .before .before .args .work .now)) (c .before .before .before .before .before .before .pre .1 .0), c .before .before .before .before .before .before .pre .0), three-first (c .before .before .before .before .before .before .args .image .now) (c .before .before .before .before .before .before .args .list .now) (c .before .before .before .before .before .before .args .tab .now) (c .before .before .before .before .before .before .args .back .now) (c .before .before .before .before .before .before .args .p .now) (c .before .before .before .before .before .before .args .u .now) (c .before .before .before .before .before .before .args .start) (c .before .before .before .before .before .before .args .end) (c .before .before .before .before .before .before .args .o) (length (c .before .before .before .before .before .before .args .work .now)) (c .before .before .before .before .before .before .pre .1 .0) (c .before .before .before .before .before .before .args .k) (c .before .before .before .before .before .before .pre .1 .1) (c .before .before .before .before .before .before .pre .1 .2) (c .before .before .before .before .before .before .pre .1 .3) (c .before .before .before .before .before .before .pre .1 .4) (c .before .before .after .result) (c .before .before .after .ensures) (c .before .after2 .result) (c .before .after2 .ensures))
 
--- src/lib.rt:185:23
 three-enum-known-n : (t : ℕ) → three-lts.Need-enum-known-n (
   after-reads.Asked,
   after-reads.Learnt,
@@ -563,7 +526,6 @@ three-enum-known-n : (t : ℕ) → three-lts.Need-enum-known-n (
 ) (three-at t) three.Post
 three-enum-known-n t c = search needs
 
--- src/lib.rt:186:20
 three-enum-known-la : (t : ℕ) → three-lts.Need-enum-known-la (
   after-reads.Asked,
   after-reads.Learnt,
@@ -574,7 +536,6 @@ three-enum-known-la : (t : ℕ) → three-lts.Need-enum-known-la (
 ) (three-at t) three.Post
 three-enum-known-la t c = search needs
 
--- src/lib.rt:197:17
 three-add-eval : (t : ℕ) → three-lts.Need-add-eval (
   after-reads.Asked,
   after-reads.Learnt,
@@ -585,7 +546,6 @@ three-add-eval : (t : ℕ) → three-lts.Need-add-eval (
 ) (three-at t) three.Post
 three-add-eval t c = omega (arith, three-slots (c .before .before .before .before .before .before .before .before .before .before .before .before .before .args .image .now) (c .before .before .before .before .before .before .before .before .before .before .before .before .before .args .list .now) (c .before .before .before .before .before .before .before .before .before .before .before .before .before .args .tab .now) (c .before .before .before .before .before .before .before .before .before .before .before .before .before .args .back .now) (c .before .before .before .before .before .before .before .before .before .before .before .before .before .args .p .now) (c .before .before .before .before .before .before .before .before .before .before .before .before .before .args .u .now) (c .before .before .before .before .before .before .before .before .before .before .before .before .before .args .start) (c .before .before .before .before .before .before .before .before .before .before .before .before .before .args .end) (c .before .before .before .before .before .before .before .before .before .before .before .before .before .args .o) (length (c .before .before .before .before .before .before .before .before .before .before .before .before .before .args .work .now)) (c .before .before .before .before .before .before .before .before .before .before .before .before .before .pre .1 .0) (c .before .before .before .before .before .before .before .before .before .before .before .before .before .args .k) (c .before .before .before .before .before .before .before .before .before .before .before .before .before .pre .1 .1) (c .before .before .before .before .before .before .before .before .before .before .before .before .before .pre .1 .2) (c .before .before .before .before .before .before .before .before .before .before .before .before .before .pre .1 .3) (c .before .before .before .before .before .before .before .before .before .before .before .before .before .pre .1 .4))
 
--- src/lib.rt:187:19
 three-eval-requires-2 : (t : ℕ) → three-lts.Need-eval-requires-2 (
   after-reads.Asked,
   after-reads.Learnt,
@@ -596,7 +556,6 @@ three-eval-requires-2 : (t : ℕ) → three-lts.Need-eval-requires-2 (
 ) (three-at t) three.Post
 three-eval-requires-2 t c κs = (omega (arith, three-between (c .before .before .before .before .before .before .before .before .before .before .before .before .before .args .image .now) (c .before .before .before .before .before .before .before .before .before .before .before .before .before .args .list .now) (c .before .before .before .before .before .before .before .before .before .before .before .before .before .args .tab .now) (c .before .before .before .before .before .before .before .before .before .before .before .before .before .args .back .now) (c .before .before .before .before .before .before .before .before .before .before .before .before .before .args .p .now) (c .before .before .before .before .before .before .before .before .before .before .before .before .before .args .u .now) (c .before .before .before .before .before .before .before .before .before .before .before .before .before .args .start) (c .before .before .before .before .before .before .before .before .before .before .before .before .before .args .end) (c .before .before .before .before .before .before .before .before .before .before .before .before .before .args .o) (length (c .before .before .before .before .before .before .before .before .before .before .before .before .before .args .work .now)) (c .before .before .before .before .before .before .before .before .before .before .before .before .before .pre .1 .0) (c .before .before .before .before .before .before .before .before .before .before .before .before .before .args .k) (c .before .before .before .before .before .before .before .before .before .before .before .before .before .pre .1 .1) (c .before .before .before .before .before .before .before .before .before .before .before .before .before .pre .1 .2) (c .before .before .before .before .before .before .before .before .before .before .before .before .before .pre .1 .3) (c .before .before .before .before .before .before .before .before .before .before .before .before .before .pre .1 .4) (c .before .before .before .before .before .before .before .before .before .after .result) (c .before .before .before .before .before .before .before .before .before .after .ensures) (c .before .before .before .before .before .before .before .before .after2 .result) (c .before .before .before .before .before .before .before .before .after2 .ensures), ready-order (c .before .before .before .before .before .before .before .before .before .before .before .before .before .args .image .now) (c .before .before .before .before .before .before .before .before .before .before .before .before .before .args .list .now) (c .before .before .before .before .before .before .before .before .before .before .before .before .before .args .tab .now) (c .before .before .before .before .before .before .before .before .before .before .before .before .before .args .back .now) (c .before .before .before .before .before .before .before .before .before .before .before .before .before .args .p .now) (c .before .before .before .before .before .before .before .before .before .before .before .before .before .args .u .now) (c .before .before .before .before .before .before .before .before .before .before .before .before .before .args .start) (c .before .before .before .before .before .before .before .before .before .before .before .before .before .args .end) (c .before .before .before .before .before .before .before .before .before .before .before .before .before .args .o) (length (c .before .before .before .before .before .before .before .before .before .before .before .before .before .args .work .now)) (c .before .before .before .before .before .before .before .before .before .before .before .before .before .pre .1 .0), c .before .before .before .before .before .before .before .before .before .before .before .before .before .pre .0), ready-in (c .before .before .before .before .before .before .before .before .before .before .before .before .before .args .image .now) (c .before .before .before .before .before .before .before .before .before .before .before .before .before .args .list .now) (c .before .before .before .before .before .before .before .before .before .before .before .before .before .args .tab .now) (c .before .before .before .before .before .before .before .before .before .before .before .before .before .args .back .now) (c .before .before .before .before .before .before .before .before .before .before .before .before .before .args .p .now) (c .before .before .before .before .before .before .before .before .before .before .before .before .before .args .u .now) (c .before .before .before .before .before .before .before .before .before .after .result) (c .before .before .before .before .before .before .before .before .after2 .result) ((c .before .before .before .before .before .before .before .before .before .before .before .before .before .args .o) + 1024) (length (c .before .before .before .before .before .before .before .before .before .before .before .before .before .args .work .now)) _ (c .before .before .before .before .before .before .eval .kept .1 .1 .1 .1 .1 .1 .1 .1 .0) (three-second (c .before .before .before .before .before .before .before .before .before .before .before .before .before .args .image .now) (c .before .before .before .before .before .before .before .before .before .before .before .before .before .args .list .now) (c .before .before .before .before .before .before .before .before .before .before .before .before .before .args .tab .now) (c .before .before .before .before .before .before .before .before .before .before .before .before .before .args .back .now) (c .before .before .before .before .before .before .before .before .before .before .before .before .before .args .p .now) (c .before .before .before .before .before .before .before .before .before .before .before .before .before .args .u .now) (c .before .before .before .before .before .before .before .before .before .before .before .before .before .args .start) (c .before .before .before .before .before .before .before .before .before .before .before .before .before .args .end) (c .before .before .before .before .before .before .before .before .before .before .before .before .before .args .o) (length (c .before .before .before .before .before .before .before .before .before .before .before .before .before .args .work .now)) (c .before .before .before .before .before .before .before .before .before .before .before .before .before .pre .1 .0) (c .before .before .before .before .before .before .before .before .before .before .before .before .before .args .k) (c .before .before .before .before .before .before .before .before .before .before .before .before .before .pre .1 .1) (c .before .before .before .before .before .before .before .before .before .before .before .before .before .pre .1 .2) (c .before .before .before .before .before .before .before .before .before .before .before .before .before .pre .1 .3) (c .before .before .before .before .before .before .before .before .before .before .before .before .before .pre .1 .4) (c .before .before .before .before .before .before .before .before .before .after .result) (c .before .before .before .before .before .before .before .before .before .after .ensures) (c .before .before .before .before .before .before .before .before .after2 .result) (c .before .before .before .before .before .before .before .before .after2 .ensures)))
 
--- src/lib.rt:199:31
 three-enum-known-n-2 : (t : ℕ) → three-lts.Need-enum-known-n-2 (
   after-reads.Asked,
   after-reads.Learnt,
@@ -607,7 +566,6 @@ three-enum-known-n-2 : (t : ℕ) → three-lts.Need-enum-known-n-2 (
 ) (three-at t) three.Post
 three-enum-known-n-2 t c = search needs
 
--- src/lib.rt:200:28
 three-enum-known-lb : (t : ℕ) → three-lts.Need-enum-known-lb (
   after-reads.Asked,
   after-reads.Learnt,
@@ -618,7 +576,6 @@ three-enum-known-lb : (t : ℕ) → three-lts.Need-enum-known-lb (
 ) (three-at t) three.Post
 three-enum-known-lb t c = search needs
 
--- src/lib.rt:211:25
 three-add-eval-2 : (t : ℕ) → three-lts.Need-add-eval-2 (
   after-reads.Asked,
   after-reads.Learnt,
@@ -629,7 +586,6 @@ three-add-eval-2 : (t : ℕ) → three-lts.Need-add-eval-2 (
 ) (three-at t) three.Post
 three-add-eval-2 t c = omega (arith, c .before .before .before .before .before .before .before .before .before .before .before .before .before .before .before .before .before .before .before .before .good, three-slots (c .before .before .before .before .before .before .before .before .before .before .before .before .before .before .before .before .before .before .before .before .args .image .now) (c .before .before .before .before .before .before .before .before .before .before .before .before .before .before .before .before .before .before .before .before .args .list .now) (c .before .before .before .before .before .before .before .before .before .before .before .before .before .before .before .before .before .before .before .before .args .tab .now) (c .before .before .before .before .before .before .before .before .before .before .before .before .before .before .before .before .before .before .before .before .args .back .now) (c .before .before .before .before .before .before .before .before .before .before .before .before .before .before .before .before .before .before .before .before .args .p .now) (c .before .before .before .before .before .before .before .before .before .before .before .before .before .before .before .before .before .before .before .before .args .u .now) (c .before .before .before .before .before .before .before .before .before .before .before .before .before .before .before .before .before .before .before .before .args .start) (c .before .before .before .before .before .before .before .before .before .before .before .before .before .before .before .before .before .before .before .before .args .end) (c .before .before .before .before .before .before .before .before .before .before .before .before .before .before .before .before .before .before .before .before .args .o) (length (c .before .before .before .before .before .before .before .before .before .before .before .before .before .before .before .before .before .before .before .before .args .work .now)) (c .before .before .before .before .before .before .before .before .before .before .before .before .before .before .before .before .before .before .before .before .pre .1 .0) (c .before .before .before .before .before .before .before .before .before .before .before .before .before .before .before .before .before .before .before .before .args .k) (c .before .before .before .before .before .before .before .before .before .before .before .before .before .before .before .before .before .before .before .before .pre .1 .1) (c .before .before .before .before .before .before .before .before .before .before .before .before .before .before .before .before .before .before .before .before .pre .1 .2) (c .before .before .before .before .before .before .before .before .before .before .before .before .before .before .before .before .before .before .before .before .pre .1 .3) (c .before .before .before .before .before .before .before .before .before .before .before .before .before .before .before .before .before .before .before .before .pre .1 .4), c .before .before .before .before .before .before .before .before .before .before .before .before .before .eval .kept .1 .1 .1 .1 .1 .1 .1 .1 .0, c .before .before .before .before .before .before .eval2 .kept .1 .1 .1 .1 .1 .1 .1 .1 .0)
 
--- src/lib.rt:201:27
 three-eval-requires-3 : (t : ℕ) → three-lts.Need-eval-requires-3 (
   after-reads.Asked,
   after-reads.Learnt,
@@ -640,7 +596,6 @@ three-eval-requires-3 : (t : ℕ) → three-lts.Need-eval-requires-3 (
 ) (three-at t) three.Post
 three-eval-requires-3 t c κs = (omega (arith, three-between (c .before .before .before .before .before .before .before .before .before .before .before .before .before .before .before .before .before .before .before .before .args .image .now) (c .before .before .before .before .before .before .before .before .before .before .before .before .before .before .before .before .before .before .before .before .args .list .now) (c .before .before .before .before .before .before .before .before .before .before .before .before .before .before .before .before .before .before .before .before .args .tab .now) (c .before .before .before .before .before .before .before .before .before .before .before .before .before .before .before .before .before .before .before .before .args .back .now) (c .before .before .before .before .before .before .before .before .before .before .before .before .before .before .before .before .before .before .before .before .args .p .now) (c .before .before .before .before .before .before .before .before .before .before .before .before .before .before .before .before .before .before .before .before .args .u .now) (c .before .before .before .before .before .before .before .before .before .before .before .before .before .before .before .before .before .before .before .before .args .start) (c .before .before .before .before .before .before .before .before .before .before .before .before .before .before .before .before .before .before .before .before .args .end) (c .before .before .before .before .before .before .before .before .before .before .before .before .before .before .before .before .before .before .before .before .args .o) (length (c .before .before .before .before .before .before .before .before .before .before .before .before .before .before .before .before .before .before .before .before .args .work .now)) (c .before .before .before .before .before .before .before .before .before .before .before .before .before .before .before .before .before .before .before .before .pre .1 .0) (c .before .before .before .before .before .before .before .before .before .before .before .before .before .before .before .before .before .before .before .before .args .k) (c .before .before .before .before .before .before .before .before .before .before .before .before .before .before .before .before .before .before .before .before .pre .1 .1) (c .before .before .before .before .before .before .before .before .before .before .before .before .before .before .before .before .before .before .before .before .pre .1 .2) (c .before .before .before .before .before .before .before .before .before .before .before .before .before .before .before .before .before .before .before .before .pre .1 .3) (c .before .before .before .before .before .before .before .before .before .before .before .before .before .before .before .before .before .before .before .before .pre .1 .4) (c .before .before .before .before .before .before .before .before .before .before .before .before .before .before .before .before .after .result) (c .before .before .before .before .before .before .before .before .before .before .before .before .before .before .before .before .after .ensures) (c .before .before .before .before .before .before .before .before .before .before .before .before .before .before .before .after2 .result) (c .before .before .before .before .before .before .before .before .before .before .before .before .before .before .before .after2 .ensures), ready-order (c .before .before .before .before .before .before .before .before .before .before .before .before .before .before .before .before .before .before .before .before .args .image .now) (c .before .before .before .before .before .before .before .before .before .before .before .before .before .before .before .before .before .before .before .before .args .list .now) (c .before .before .before .before .before .before .before .before .before .before .before .before .before .before .before .before .before .before .before .before .args .tab .now) (c .before .before .before .before .before .before .before .before .before .before .before .before .before .before .before .before .before .before .before .before .args .back .now) (c .before .before .before .before .before .before .before .before .before .before .before .before .before .before .before .before .before .before .before .before .args .p .now) (c .before .before .before .before .before .before .before .before .before .before .before .before .before .before .before .before .before .before .before .before .args .u .now) (c .before .before .before .before .before .before .before .before .before .before .before .before .before .before .before .before .before .before .before .before .args .start) (c .before .before .before .before .before .before .before .before .before .before .before .before .before .before .before .before .before .before .before .before .args .end) (c .before .before .before .before .before .before .before .before .before .before .before .before .before .before .before .before .before .before .before .before .args .o) (length (c .before .before .before .before .before .before .before .before .before .before .before .before .before .before .before .before .before .before .before .before .args .work .now)) (c .before .before .before .before .before .before .before .before .before .before .before .before .before .before .before .before .before .before .before .before .pre .1 .0), c .before .before .before .before .before .before .before .before .before .before .before .before .before .before .before .before .before .before .before .before .pre .0), ready-in (c .before .before .before .before .before .before .before .before .before .before .before .before .before .before .before .before .before .before .before .before .args .image .now) (c .before .before .before .before .before .before .before .before .before .before .before .before .before .before .before .before .before .before .before .before .args .list .now) (c .before .before .before .before .before .before .before .before .before .before .before .before .before .before .before .before .before .before .before .before .args .tab .now) (c .before .before .before .before .before .before .before .before .before .before .before .before .before .before .before .before .before .before .before .before .args .back .now) (c .before .before .before .before .before .before .before .before .before .before .before .before .before .before .before .before .before .before .before .before .args .p .now) (c .before .before .before .before .before .before .before .before .before .before .before .before .before .before .before .before .before .before .before .before .args .u .now) (c .before .before .before .before .before .before .before .before .before .before .before .before .before .before .before .after2 .result) (c .before .before .before .before .before .before .before .before .before .before .before .before .before .before .before .before .before .before .before .before .args .end) ((c .before .before .before .before .before .before .before .before .before .before .before .before .before .before .before .before .before .before .before .before .args .o) + 2048) (length (c .before .before .before .before .before .before .before .before .before .before .before .before .before .before .before .before .before .before .before .before .args .work .now)) _ (c .before .before .before .before .before .before .eval2 .kept .1 .1 .1 .1 .1 .1 .1 .1 .0 ∙ c .before .before .before .before .before .before .before .before .before .before .before .before .before .eval .kept .1 .1 .1 .1 .1 .1 .1 .1 .0) (three-third (c .before .before .before .before .before .before .before .before .before .before .before .before .before .before .before .before .before .before .before .before .args .image .now) (c .before .before .before .before .before .before .before .before .before .before .before .before .before .before .before .before .before .before .before .before .args .list .now) (c .before .before .before .before .before .before .before .before .before .before .before .before .before .before .before .before .before .before .before .before .args .tab .now) (c .before .before .before .before .before .before .before .before .before .before .before .before .before .before .before .before .before .before .before .before .args .back .now) (c .before .before .before .before .before .before .before .before .before .before .before .before .before .before .before .before .before .before .before .before .args .p .now) (c .before .before .before .before .before .before .before .before .before .before .before .before .before .before .before .before .before .before .before .before .args .u .now) (c .before .before .before .before .before .before .before .before .before .before .before .before .before .before .before .before .before .before .before .before .args .start) (c .before .before .before .before .before .before .before .before .before .before .before .before .before .before .before .before .before .before .before .before .args .end) (c .before .before .before .before .before .before .before .before .before .before .before .before .before .before .before .before .before .before .before .before .args .o) (length (c .before .before .before .before .before .before .before .before .before .before .before .before .before .before .before .before .before .before .before .before .args .work .now)) (c .before .before .before .before .before .before .before .before .before .before .before .before .before .before .before .before .before .before .before .before .pre .1 .0) (c .before .before .before .before .before .before .before .before .before .before .before .before .before .before .before .before .before .before .before .before .args .k) (c .before .before .before .before .before .before .before .before .before .before .before .before .before .before .before .before .before .before .before .before .pre .1 .1) (c .before .before .before .before .before .before .before .before .before .before .before .before .before .before .before .before .before .before .before .before .pre .1 .2) (c .before .before .before .before .before .before .before .before .before .before .before .before .before .before .before .before .before .before .before .before .pre .1 .3) (c .before .before .before .before .before .before .before .before .before .before .before .before .before .before .before .before .before .before .before .before .pre .1 .4) (c .before .before .before .before .before .before .before .before .before .before .before .before .before .before .before .before .after .result) (c .before .before .before .before .before .before .before .before .before .before .before .before .before .before .before .before .after .ensures) (c .before .before .before .before .before .before .before .before .before .before .before .before .before .before .before .after2 .result) (c .before .before .before .before .before .before .before .before .before .before .before .before .before .before .before .after2 .ensures)))
 
--- src/lib.rt:213:39
 three-enum-known-n-3 : (t : ℕ) → three-lts.Need-enum-known-n-3 (
   after-reads.Asked,
   after-reads.Learnt,
@@ -651,7 +606,6 @@ three-enum-known-n-3 : (t : ℕ) → three-lts.Need-enum-known-n-3 (
 ) (three-at t) three.Post
 three-enum-known-n-3 t c = search needs
 
--- src/lib.rt:214:36
 three-enum-known-lc : (t : ℕ) → three-lts.Need-enum-known-lc (
   after-reads.Asked,
   after-reads.Learnt,
@@ -662,7 +616,6 @@ three-enum-known-lc : (t : ℕ) → three-lts.Need-enum-known-lc (
 ) (three-at t) three.Post
 three-enum-known-lc t c = search needs
 
--- src/lib.rt:215:29
 three-apply-three-requires : (t : ℕ) → three-lts.Need-apply-three-requires (
   after-reads.Asked,
   after-reads.Learnt,
@@ -673,7 +626,6 @@ three-apply-three-requires : (t : ℕ) → three-lts.Need-apply-three-requires (
 ) (three-at t) three.Post
 three-apply-three-requires t c κs = (omega (arith, three-slots (c .before .before .before .before .before .before .before .before .before .before .before .before .before .before .before .before .before .before .before .before .before .before .before .before .before .before .before .args .image .now) (c .before .before .before .before .before .before .before .before .before .before .before .before .before .before .before .before .before .before .before .before .before .before .before .before .before .before .before .args .list .now) (c .before .before .before .before .before .before .before .before .before .before .before .before .before .before .before .before .before .before .before .before .before .before .before .before .before .before .before .args .tab .now) (c .before .before .before .before .before .before .before .before .before .before .before .before .before .before .before .before .before .before .before .before .before .before .before .before .before .before .before .args .back .now) (c .before .before .before .before .before .before .before .before .before .before .before .before .before .before .before .before .before .before .before .before .before .before .before .before .before .before .before .args .p .now) (c .before .before .before .before .before .before .before .before .before .before .before .before .before .before .before .before .before .before .before .before .before .before .before .before .before .before .before .args .u .now) (c .before .before .before .before .before .before .before .before .before .before .before .before .before .before .before .before .before .before .before .before .before .before .before .before .before .before .before .args .start) (c .before .before .before .before .before .before .before .before .before .before .before .before .before .before .before .before .before .before .before .before .before .before .before .before .before .before .before .args .end) (c .before .before .before .before .before .before .before .before .before .before .before .before .before .before .before .before .before .before .before .before .before .before .before .before .before .before .before .args .o) (length (c .before .before .before .before .before .before .before .before .before .before .before .before .before .before .before .before .before .before .before .before .before .before .before .before .before .before .before .args .work .now)) (c .before .before .before .before .before .before .before .before .before .before .before .before .before .before .before .before .before .before .before .before .before .before .before .before .before .before .before .pre .1 .0) (c .before .before .before .before .before .before .before .before .before .before .before .before .before .before .before .before .before .before .before .before .before .before .before .before .before .before .before .args .k) (c .before .before .before .before .before .before .before .before .before .before .before .before .before .before .before .before .before .before .before .before .before .before .before .before .before .before .before .pre .1 .1) (c .before .before .before .before .before .before .before .before .before .before .before .before .before .before .before .before .before .before .before .before .before .before .before .before .before .before .before .pre .1 .2) (c .before .before .before .before .before .before .before .before .before .before .before .before .before .before .before .before .before .before .before .before .before .before .before .before .before .before .before .pre .1 .3) (c .before .before .before .before .before .before .before .before .before .before .before .before .before .before .before .before .before .before .before .before .before .before .before .before .before .before .before .pre .1 .4), c .before .before .before .before .before .before .before .before .before .before .before .before .before .before .before .before .before .before .before .before .eval .kept .1 .1 .1 .1 .1 .1 .1 .1 .0, c .before .before .before .before .before .before .before .before .before .before .before .before .before .eval2 .kept .1 .1 .1 .1 .1 .1 .1 .1 .0, c .before .before .before .before .before .before .eval3 .kept .1 .1 .1 .1 .1 .1 .1 .1 .0), told-small (c .before .before .before .before .before .before .before .before .before .before .before .before .before .before .before .before .before .before .before .before .before .before .before .before .before .before .before .args .image .now) (c .before .before .before .before .before .before .before .before .before .before .before .before .before .before .before .before .before .before .before .before .before .before .before .before .before .before .before .args .list .now) (c .before .before .before .before .before .before .before .before .before .before .before .before .before .before .before .before .before .before .before .before .before .before .before .before .before .before .before .args .tab .now) (c .before .before .before .before .before .before .before .before .before .before .before .before .before .before .before .before .before .before .before .before .before .before .before .before .before .before .before .args .back .now) (c .before .before .before .before .before .before .before .before .before .before .before .before .before .before .before .before .before .before .before .before .before .before .before .before .before .before .before .args .p .now) (c .before .before .before .before .before .before .before .before .before .before .before .before .before .before .before .before .before .before .before .before .before .before .before .before .before .before .before .args .u .now) ((c .before .before .before .before .before .before .before .before .before .before .before .before .before .before .before .before .before .before .before .before .before .before .before .before .before .before .before .args .start) + 4) (c .before .before .before .before .before .before .before .before .before .before .before .before .before .before .before .before .before .before .before .before .before .before .before .after .result) (c .before .before .before .before .before .before .before .before .before .before .before .before .before .before .before .before .before .before .before .before .before .before .before .before .before .before .before .args .o) (c .before .before .before .before .before .before .before .before .before .before .before .before .before .before .before .before .before .before .before .before .before .before .before .before .before .before .before .args .o) (length (c .before .before .before .before .before .before .before .before .before .before .before .before .before .before .before .before .before .before .before .before .before .before .before .before .before .before .before .args .work .now)) (c .before .before .before .before .before .before .before .before .before .before .before .before .before .before .before .before .la .given .0 .0) _ _ (c .before .before .before .before .before .before .before .before .before .before .before .before .before .before .before .before .before .before .before .before .eval .result) (three-first (c .before .before .before .before .before .before .before .before .before .before .before .before .before .before .before .before .before .before .before .before .before .before .before .before .before .before .before .args .image .now) (c .before .before .before .before .before .before .before .before .before .before .before .before .before .before .before .before .before .before .before .before .before .before .before .before .before .before .before .args .list .now) (c .before .before .before .before .before .before .before .before .before .before .before .before .before .before .before .before .before .before .before .before .before .before .before .before .before .before .before .args .tab .now) (c .before .before .before .before .before .before .before .before .before .before .before .before .before .before .before .before .before .before .before .before .before .before .before .before .before .before .before .args .back .now) (c .before .before .before .before .before .before .before .before .before .before .before .before .before .before .before .before .before .before .before .before .before .before .before .before .before .before .before .args .p .now) (c .before .before .before .before .before .before .before .before .before .before .before .before .before .before .before .before .before .before .before .before .before .before .before .before .before .before .before .args .u .now) (c .before .before .before .before .before .before .before .before .before .before .before .before .before .before .before .before .before .before .before .before .before .before .before .before .before .before .before .args .start) (c .before .before .before .before .before .before .before .before .before .before .before .before .before .before .before .before .before .before .before .before .before .before .before .before .before .before .before .args .end) (c .before .before .before .before .before .before .before .before .before .before .before .before .before .before .before .before .before .before .before .before .before .before .before .before .before .before .before .args .o) (length (c .before .before .before .before .before .before .before .before .before .before .before .before .before .before .before .before .before .before .before .before .before .before .before .before .before .before .before .args .work .now)) (c .before .before .before .before .before .before .before .before .before .before .before .before .before .before .before .before .before .before .before .before .before .before .before .before .before .before .before .pre .1 .0) (c .before .before .before .before .before .before .before .before .before .before .before .before .before .before .before .before .before .before .before .before .before .before .before .before .before .before .before .args .k) (c .before .before .before .before .before .before .before .before .before .before .before .before .before .before .before .before .before .before .before .before .before .before .before .before .before .before .before .pre .1 .1) (c .before .before .before .before .before .before .before .before .before .before .before .before .before .before .before .before .before .before .before .before .before .before .before .before .before .before .before .pre .1 .2) (c .before .before .before .before .before .before .before .before .before .before .before .before .before .before .before .before .before .before .before .before .before .before .before .before .before .before .before .pre .1 .3) (c .before .before .before .before .before .before .before .before .before .before .before .before .before .before .before .before .before .before .before .before .before .before .before .before .before .before .before .pre .1 .4) (c .before .before .before .before .before .before .before .before .before .before .before .before .before .before .before .before .before .before .before .before .before .before .before .after .result) (c .before .before .before .before .before .before .before .before .before .before .before .before .before .before .before .before .before .before .before .before .before .before .before .after .ensures) (c .before .before .before .before .before .before .before .before .before .before .before .before .before .before .before .before .before .before .before .before .before .before .after2 .result) (c .before .before .before .before .before .before .before .before .before .before .before .before .before .before .before .before .before .before .before .before .before .before .after2 .ensures)) (c .before .before .before .before .before .before .before .before .before .before .before .before .before .before .before .before .before .before .before .before .eval .ensures) (c .before .before .before .before .before .before .before .before .before .before .before .before .before .before .before .before .la .given .1), told-small (c .before .before .before .before .before .before .before .before .before .before .before .before .before .before .before .before .before .before .before .before .before .before .before .before .before .before .before .args .image .now) (c .before .before .before .before .before .before .before .before .before .before .before .before .before .before .before .before .before .before .before .before .before .before .before .before .before .before .before .args .list .now) (c .before .before .before .before .before .before .before .before .before .before .before .before .before .before .before .before .before .before .before .before .before .before .before .before .before .before .before .args .tab .now) (c .before .before .before .before .before .before .before .before .before .before .before .before .before .before .before .before .before .before .before .before .before .before .before .before .before .before .before .args .back .now) (c .before .before .before .before .before .before .before .before .before .before .before .before .before .before .before .before .before .before .before .before .before .before .before .before .before .before .before .args .p .now) (c .before .before .before .before .before .before .before .before .before .before .before .before .before .before .before .before .before .before .before .before .before .before .before .before .before .before .before .args .u .now) (c .before .before .before .before .before .before .before .before .before .before .before .before .before .before .before .before .before .before .before .before .before .before .before .after .result) (c .before .before .before .before .before .before .before .before .before .before .before .before .before .before .before .before .before .before .before .before .before .before .after2 .result) ((c .before .before .before .before .before .before .before .before .before .before .before .before .before .before .before .before .before .before .before .before .before .before .before .before .before .before .before .args .o) + 1024) ((c .before .before .before .before .before .before .before .before .before .before .before .before .before .before .before .before .before .before .before .before .before .before .before .before .before .before .before .args .o) + 1024) (length (c .before .before .before .before .before .before .before .before .before .before .before .before .before .before .before .before .before .before .before .before .before .before .before .before .before .before .before .args .work .now)) (c .before .before .before .before .before .before .before .before .before .lb .given .0 .0) _ _ (c .before .before .before .before .before .before .before .before .before .before .before .before .before .eval2 .result) (three-second (c .before .before .before .before .before .before .before .before .before .before .before .before .before .before .before .before .before .before .before .before .before .before .before .before .before .before .before .args .image .now) (c .before .before .before .before .before .before .before .before .before .before .before .before .before .before .before .before .before .before .before .before .before .before .before .before .before .before .before .args .list .now) (c .before .before .before .before .before .before .before .before .before .before .before .before .before .before .before .before .before .before .before .before .before .before .before .before .before .before .before .args .tab .now) (c .before .before .before .before .before .before .before .before .before .before .before .before .before .before .before .before .before .before .before .before .before .before .before .before .before .before .before .args .back .now) (c .before .before .before .before .before .before .before .before .before .before .before .before .before .before .before .before .before .before .before .before .before .before .before .before .before .before .before .args .p .now) (c .before .before .before .before .before .before .before .before .before .before .before .before .before .before .before .before .before .before .before .before .before .before .before .before .before .before .before .args .u .now) (c .before .before .before .before .before .before .before .before .before .before .before .before .before .before .before .before .before .before .before .before .before .before .before .before .before .before .before .args .start) (c .before .before .before .before .before .before .before .before .before .before .before .before .before .before .before .before .before .before .before .before .before .before .before .before .before .before .before .args .end) (c .before .before .before .before .before .before .before .before .before .before .before .before .before .before .before .before .before .before .before .before .before .before .before .before .before .before .before .args .o) (length (c .before .before .before .before .before .before .before .before .before .before .before .before .before .before .before .before .before .before .before .before .before .before .before .before .before .before .before .args .work .now)) (c .before .before .before .before .before .before .before .before .before .before .before .before .before .before .before .before .before .before .before .before .before .before .before .before .before .before .before .pre .1 .0) (c .before .before .before .before .before .before .before .before .before .before .before .before .before .before .before .before .before .before .before .before .before .before .before .before .before .before .before .args .k) (c .before .before .before .before .before .before .before .before .before .before .before .before .before .before .before .before .before .before .before .before .before .before .before .before .before .before .before .pre .1 .1) (c .before .before .before .before .before .before .before .before .before .before .before .before .before .before .before .before .before .before .before .before .before .before .before .before .before .before .before .pre .1 .2) (c .before .before .before .before .before .before .before .before .before .before .before .before .before .before .before .before .before .before .before .before .before .before .before .before .before .before .before .pre .1 .3) (c .before .before .before .before .before .before .before .before .before .before .before .before .before .before .before .before .before .before .before .before .before .before .before .before .before .before .before .pre .1 .4) (c .before .before .before .before .before .before .before .before .before .before .before .before .before .before .before .before .before .before .before .before .before .before .before .after .result) (c .before .before .before .before .before .before .before .before .before .before .before .before .before .before .before .before .before .before .before .before .before .before .before .after .ensures) (c .before .before .before .before .before .before .before .before .before .before .before .before .before .before .before .before .before .before .before .before .before .before .after2 .result) (c .before .before .before .before .before .before .before .before .before .before .before .before .before .before .before .before .before .before .before .before .before .before .after2 .ensures)) (c .before .before .before .before .before .before .before .before .before .before .before .before .before .eval2 .ensures) (c .before .before .before .before .before .before .before .before .before .lb .given .1), told-small (c .before .before .before .before .before .before .before .before .before .before .before .before .before .before .before .before .before .before .before .before .before .before .before .before .before .before .before .args .image .now) (c .before .before .before .before .before .before .before .before .before .before .before .before .before .before .before .before .before .before .before .before .before .before .before .before .before .before .before .args .list .now) (c .before .before .before .before .before .before .before .before .before .before .before .before .before .before .before .before .before .before .before .before .before .before .before .before .before .before .before .args .tab .now) (c .before .before .before .before .before .before .before .before .before .before .before .before .before .before .before .before .before .before .before .before .before .before .before .before .before .before .before .args .back .now) (c .before .before .before .before .before .before .before .before .before .before .before .before .before .before .before .before .before .before .before .before .before .before .before .before .before .before .before .args .p .now) (c .before .before .before .before .before .before .before .before .before .before .before .before .before .before .before .before .before .before .before .before .before .before .before .before .before .before .before .args .u .now) (c .before .before .before .before .before .before .before .before .before .before .before .before .before .before .before .before .before .before .before .before .before .before .after2 .result) (c .before .before .before .before .before .before .before .before .before .before .before .before .before .before .before .before .before .before .before .before .before .before .before .before .before .before .before .args .end) ((c .before .before .before .before .before .before .before .before .before .before .before .before .before .before .before .before .before .before .before .before .before .before .before .before .before .before .before .args .o) + 2048) ((c .before .before .before .before .before .before .before .before .before .before .before .before .before .before .before .before .before .before .before .before .before .before .before .before .before .before .before .args .o) + 2048) (length (c .before .before .before .before .before .before .before .before .before .before .before .before .before .before .before .before .before .before .before .before .before .before .before .before .before .before .before .args .work .now)) (c .before .before .lc .given .0 .0) _ _ (c .before .before .before .before .before .before .eval3 .result) (three-third (c .before .before .before .before .before .before .before .before .before .before .before .before .before .before .before .before .before .before .before .before .before .before .before .before .before .before .before .args .image .now) (c .before .before .before .before .before .before .before .before .before .before .before .before .before .before .before .before .before .before .before .before .before .before .before .before .before .before .before .args .list .now) (c .before .before .before .before .before .before .before .before .before .before .before .before .before .before .before .before .before .before .before .before .before .before .before .before .before .before .before .args .tab .now) (c .before .before .before .before .before .before .before .before .before .before .before .before .before .before .before .before .before .before .before .before .before .before .before .before .before .before .before .args .back .now) (c .before .before .before .before .before .before .before .before .before .before .before .before .before .before .before .before .before .before .before .before .before .before .before .before .before .before .before .args .p .now) (c .before .before .before .before .before .before .before .before .before .before .before .before .before .before .before .before .before .before .before .before .before .before .before .before .before .before .before .args .u .now) (c .before .before .before .before .before .before .before .before .before .before .before .before .before .before .before .before .before .before .before .before .before .before .before .before .before .before .before .args .start) (c .before .before .before .before .before .before .before .before .before .before .before .before .before .before .before .before .before .before .before .before .before .before .before .before .before .before .before .args .end) (c .before .before .before .before .before .before .before .before .before .before .before .before .before .before .before .before .before .before .before .before .before .before .before .before .before .before .before .args .o) (length (c .before .before .before .before .before .before .before .before .before .before .before .before .before .before .before .before .before .before .before .before .before .before .before .before .before .before .before .args .work .now)) (c .before .before .before .before .before .before .before .before .before .before .before .before .before .before .before .before .before .before .before .before .before .before .before .before .before .before .before .pre .1 .0) (c .before .before .before .before .before .before .before .before .before .before .before .before .before .before .before .before .before .before .before .before .before .before .before .before .before .before .before .args .k) (c .before .before .before .before .before .before .before .before .before .before .before .before .before .before .before .before .before .before .before .before .before .before .before .before .before .before .before .pre .1 .1) (c .before .before .before .before .before .before .before .before .before .before .before .before .before .before .before .before .before .before .before .before .before .before .before .before .before .before .before .pre .1 .2) (c .before .before .before .before .before .before .before .before .before .before .before .before .before .before .before .before .before .before .before .before .before .before .before .before .before .before .before .pre .1 .3) (c .before .before .before .before .before .before .before .before .before .before .before .before .before .before .before .before .before .before .before .before .before .before .before .before .before .before .before .pre .1 .4) (c .before .before .before .before .before .before .before .before .before .before .before .before .before .before .before .before .before .before .before .before .before .before .before .after .result) (c .before .before .before .before .before .before .before .before .before .before .before .before .before .before .before .before .before .before .before .before .before .before .before .after .ensures) (c .before .before .before .before .before .before .before .before .before .before .before .before .before .before .before .before .before .before .before .before .before .before .after2 .result) (c .before .before .before .before .before .before .before .before .before .before .before .before .before .before .before .before .before .before .before .before .before .before .after2 .ensures)) (c .before .before .before .before .before .before .eval3 .ensures) (c .before .before .lc .given .1), three-takes (c .before .before .before .before .before .before .before .before .before .before .before .before .before .before .before .before .before .before .before .before .before .before .before .before .before .before .before .args .image .now) (c .before .before .before .before .before .before .before .before .before .before .before .before .before .before .before .before .before .before .before .before .before .before .before .before .before .before .before .args .list .now) (c .before .before .before .before .before .before .before .before .before .before .before .before .before .before .before .before .before .before .before .before .before .before .before .before .before .before .before .args .tab .now) (c .before .before .before .before .before .before .before .before .before .before .before .before .before .before .before .before .before .before .before .before .before .before .before .before .before .before .before .args .back .now) (c .before .before .before .before .before .before .before .before .before .before .before .before .before .before .before .before .before .before .before .before .before .before .before .before .before .before .before .args .p .now) (c .before .before .before .before .before .before .before .before .before .before .before .before .before .before .before .before .before .before .before .before .before .before .before .before .before .before .before .args .u .now) (c .before .before .before .before .before .before .before .before .before .before .before .before .before .before .before .before .before .before .before .before .before .before .before .before .before .before .before .args .start) (c .before .before .before .before .before .before .before .before .before .before .before .before .before .before .before .before .before .before .before .before .before .before .before .before .before .before .before .args .end) (c .before .before .before .before .before .before .before .before .before .before .before .before .before .before .before .before .before .before .before .before .before .before .before .before .before .before .before .args .o) (length (c .before .before .before .before .before .before .before .before .before .before .before .before .before .before .before .before .before .before .before .before .before .before .before .before .before .before .before .args .work .now)) (c .before .before .before .before .before .before .before .before .before .before .before .before .before .before .before .before .before .before .before .before .before .before .before .before .before .before .before .pre .1 .0) (c .before .before .before .before .before .before .before .before .before .before .before .before .before .before .before .before .before .before .before .before .before .before .before .before .before .before .before .args .k) (c .before .before .before .before .before .before .before .before .before .before .before .before .before .before .before .before .before .before .before .before .before .before .before .before .before .before .before .pre .1 .1) (c .before .before .before .before .before .before .before .before .before .before .before .before .before .before .before .before .before .before .before .before .before .before .before .before .before .before .before .pre .1 .2) (c .before .before .before .before .before .before .before .before .before .before .before .before .before .before .before .before .before .before .before .before .before .before .before .before .before .before .before .pre .1 .3) (c .before .before .before .before .before .before .before .before .before .before .before .before .before .before .before .before .before .before .before .before .before .before .before .before .before .before .before .pre .1 .4), (c .before .before .before .before .before .before .before .before .before .before .before .before .before .before .before .before .before .before .before .before .before .before .before .before .before .before .before .pre .1 .3), three-lent (c .before .before .before .before .before .before .before .before .before .before .before .before .before .before .before .before .before .before .before .before .before .before .before .before .before .before .before .args .image .now) (c .before .before .before .before .before .before .before .before .before .before .before .before .before .before .before .before .before .before .before .before .before .before .before .before .before .before .before .args .list .now) (c .before .before .before .before .before .before .before .before .before .before .before .before .before .before .before .before .before .before .before .before .before .before .before .before .before .before .before .args .tab .now) (c .before .before .before .before .before .before .before .before .before .before .before .before .before .before .before .before .before .before .before .before .before .before .before .before .before .before .before .args .back .now) (c .before .before .before .before .before .before .before .before .before .before .before .before .before .before .before .before .before .before .before .before .before .before .before .before .before .before .before .args .p .now) (c .before .before .before .before .before .before .before .before .before .before .before .before .before .before .before .before .before .before .before .before .before .before .before .before .before .before .before .args .u .now) (c .before .before .before .before .before .before .before .before .before .before .before .before .before .before .before .before .before .before .before .before .before .before .before .before .before .before .before .args .start) (c .before .before .before .before .before .before .before .before .before .before .before .before .before .before .before .before .before .before .before .before .before .before .before .before .before .before .before .args .end) (c .before .before .before .before .before .before .before .before .before .before .before .before .before .before .before .before .before .before .before .before .before .before .before .before .before .before .before .args .o) (length (c .before .before .before .before .before .before .before .before .before .before .before .before .before .before .before .before .before .before .before .before .before .before .before .before .before .before .before .args .work .now)) (c .before .before .before .before .before .before .before .before .before .before .before .before .before .before .before .before .before .before .before .before .before .before .before .before .before .before .before .pre .1 .0) (c .before .before .before .before .before .before .before .before .before .before .before .before .before .before .before .before .before .before .before .before .before .before .before .before .before .before .before .args .k) (c .before .before .before .before .before .before .before .before .before .before .before .before .before .before .before .before .before .before .before .before .before .before .before .before .before .before .before .pre .1 .1) (c .before .before .before .before .before .before .before .before .before .before .before .before .before .before .before .before .before .before .before .before .before .before .before .before .before .before .before .pre .1 .2) (c .before .before .before .before .before .before .before .before .before .before .before .before .before .before .before .before .before .before .before .before .before .before .before .before .before .before .before .pre .1 .3) (c .before .before .before .before .before .before .before .before .before .before .before .before .before .before .before .before .before .before .before .before .before .before .before .before .before .before .before .pre .1 .4))
 
--- src/lib.rt:165:1
 three-same-length : (t : ℕ) → three-lts.Need-same-length (
   after-reads.Asked,
   after-reads.Learnt,
@@ -684,7 +636,6 @@ three-same-length : (t : ℕ) → three-lts.Need-same-length (
 ) (three-at t) three.Post
 three-same-length t c = search needs
 
--- src/lib.rt:165:1
 three-returns : (t : ℕ) → three-lts.Need-returns (
   after-reads.Asked,
   after-reads.Learnt,
@@ -695,7 +646,6 @@ three-returns : (t : ℕ) → three-lts.Need-returns (
 ) (three-at t) three.Post
 three-returns t c = three-refused-first (c .before .before .before .before .before .before .before .before .before .before .before .before .args .image .now) (c .before .before .before .before .before .before .before .before .before .before .before .before .args .list .now) (c .before .before .before .before .before .before .before .before .before .before .before .before .args .start) (c .before .before .before .before .before .before .before .before .before .before .before .before .args .end) (c .before .before .before .before .before .before .before .before .before .before .before .before .args .o) (c .before .before .before .before .before .before .before .before .before .before .before .before .args .k) (c .before .before .before .before .before .before .before .before .before .before .before .before .pre .1 .1) (c .before .before .before .before .before .before .before .before .before .before .before .before .pre .1 .2) (c .before .before .before .before .before .before .before .before .before .before .before .before .pre .1 .3) (c .before .before .before .before .before .before .before .before .before .before .before .before .pre .1 .4) (c .before .before .before .before .before .before .before .before .after .result) (c .before .before .before .before .before .before .before .before .after .ensures) (c .before .before .before .before .before .before .before .after2 .result) (c .before .before .before .before .before .before .before .after2 .ensures) (c .before .before .before .before .before .before .before .before .before .before .before .before .args .work .now) _ (c .before .before .before .before .before .eval .result) (c .before .before .before .before .before .eval .ensures) (c .before .n .given .0 .0) (c .before .n .given .1)
 
--- src/lib.rt:165:1
 three-same-length-2 : (t : ℕ) → three-lts.Need-same-length-2 (
   after-reads.Asked,
   after-reads.Learnt,
@@ -706,7 +656,6 @@ three-same-length-2 : (t : ℕ) → three-lts.Need-same-length-2 (
 ) (three-at t) three.Post
 three-same-length-2 t c = search needs
 
--- src/lib.rt:165:1
 three-returns-2 : (t : ℕ) → three-lts.Need-returns-2 (
   after-reads.Asked,
   after-reads.Learnt,
@@ -717,7 +666,6 @@ three-returns-2 : (t : ℕ) → three-lts.Need-returns-2 (
 ) (three-at t) three.Post
 three-returns-2 t c = three-refused-second (c .before .before .before .before .before .before .before .before .before .before .before .before .before .before .before .before .before .before .before .args .image .now) (c .before .before .before .before .before .before .before .before .before .before .before .before .before .before .before .before .before .before .before .args .list .now) (c .before .before .before .before .before .before .before .before .before .before .before .before .before .before .before .before .before .before .before .args .start) (c .before .before .before .before .before .before .before .before .before .before .before .before .before .before .before .before .before .before .before .args .end) (c .before .before .before .before .before .before .before .before .before .before .before .before .before .before .before .before .before .before .before .args .o) (c .before .before .before .before .before .before .before .before .before .before .before .before .before .before .before .before .before .before .before .args .k) (c .before .before .before .before .before .before .before .before .before .before .before .before .before .before .before .before .before .before .before .pre .1 .1) (c .before .before .before .before .before .before .before .before .before .before .before .before .before .before .before .before .before .before .before .pre .1 .2) (c .before .before .before .before .before .before .before .before .before .before .before .before .before .before .before .before .before .before .before .pre .1 .3) (c .before .before .before .before .before .before .before .before .before .before .before .before .before .before .before .before .before .before .before .pre .1 .4) (c .before .before .before .before .before .before .before .before .before .before .before .before .before .before .before .after .result) (c .before .before .before .before .before .before .before .before .before .before .before .before .before .before .before .after .ensures) (c .before .before .before .before .before .before .before .before .before .before .before .before .before .before .after2 .result) (c .before .before .before .before .before .before .before .before .before .before .before .before .before .before .after2 .ensures) (c .before .before .before .before .before .before .before .before .before .before .before .before .before .before .before .before .before .before .before .args .work .now) _ (c .before .before .before .before .before .before .before .before .before .before .before .before .eval .result) (c .before .before .before .before .before .before .before .before .before .before .before .before .eval .ensures) (c .before .before .before .before .before .before .before .before .la .given .0 .0) (c .before .before .before .before .before .before .before .before .la .given .1) _ (c .before .before .before .before .before .eval2 .result) (c .before .before .before .before .before .eval2 .ensures) (c .before .n2 .given .0 .0) (c .before .n2 .given .1)
 
--- src/lib.rt:165:1
 three-same-length-3 : (t : ℕ) → three-lts.Need-same-length-3 (
   after-reads.Asked,
   after-reads.Learnt,
@@ -728,7 +676,6 @@ three-same-length-3 : (t : ℕ) → three-lts.Need-same-length-3 (
 ) (three-at t) three.Post
 three-same-length-3 t c = search needs
 
--- src/lib.rt:165:1
 three-returns-3 : (t : ℕ) → three-lts.Need-returns-3 (
   after-reads.Asked,
   after-reads.Learnt,
@@ -739,7 +686,6 @@ three-returns-3 : (t : ℕ) → three-lts.Need-returns-3 (
 ) (three-at t) three.Post
 three-returns-3 t c = three-refused-third (c .before .before .before .before .before .before .before .before .before .before .before .before .before .before .before .before .before .before .before .before .before .before .before .before .before .before .args .image .now) (c .before .before .before .before .before .before .before .before .before .before .before .before .before .before .before .before .before .before .before .before .before .before .before .before .before .before .args .list .now) (c .before .before .before .before .before .before .before .before .before .before .before .before .before .before .before .before .before .before .before .before .before .before .before .before .before .before .args .start) (c .before .before .before .before .before .before .before .before .before .before .before .before .before .before .before .before .before .before .before .before .before .before .before .before .before .before .args .end) (c .before .before .before .before .before .before .before .before .before .before .before .before .before .before .before .before .before .before .before .before .before .before .before .before .before .before .args .o) (c .before .before .before .before .before .before .before .before .before .before .before .before .before .before .before .before .before .before .before .before .before .before .before .before .before .before .args .k) (c .before .before .before .before .before .before .before .before .before .before .before .before .before .before .before .before .before .before .before .before .before .before .before .before .before .before .pre .1 .1) (c .before .before .before .before .before .before .before .before .before .before .before .before .before .before .before .before .before .before .before .before .before .before .before .before .before .before .pre .1 .2) (c .before .before .before .before .before .before .before .before .before .before .before .before .before .before .before .before .before .before .before .before .before .before .before .before .before .before .pre .1 .3) (c .before .before .before .before .before .before .before .before .before .before .before .before .before .before .before .before .before .before .before .before .before .before .before .before .before .before .pre .1 .4) (c .before .before .before .before .before .before .before .before .before .before .before .before .before .before .before .before .before .before .before .before .before .before .after .result) (c .before .before .before .before .before .before .before .before .before .before .before .before .before .before .before .before .before .before .before .before .before .before .after .ensures) (c .before .before .before .before .before .before .before .before .before .before .before .before .before .before .before .before .before .before .before .before .before .after2 .result) (c .before .before .before .before .before .before .before .before .before .before .before .before .before .before .before .before .before .before .before .before .before .after2 .ensures) (c .before .before .before .before .before .before .before .before .before .before .before .before .before .before .before .before .before .before .before .before .before .before .before .before .before .before .args .work .now) _ (c .before .before .before .before .before .before .before .before .before .before .before .before .before .before .before .before .before .before .before .eval .result) (c .before .before .before .before .before .before .before .before .before .before .before .before .before .before .before .before .before .before .before .eval .ensures) (c .before .before .before .before .before .before .before .before .before .before .before .before .before .before .before .la .given .0 .0) (c .before .before .before .before .before .before .before .before .before .before .before .before .before .before .before .la .given .1) _ (c .before .before .before .before .before .before .before .before .before .before .before .before .eval2 .result) (c .before .before .before .before .before .before .before .before .before .before .before .before .eval2 .ensures) (c .before .before .before .before .before .before .before .before .lb .given .0 .0) (c .before .before .before .before .before .before .before .before .lb .given .1) _ (c .before .before .before .before .before .eval3 .result) (c .before .before .before .before .before .eval3 .ensures) (c .before .n3 .given .0 .0) (c .before .n3 .given .1)
 
--- src/lib.rt:165:1
 three-same-length-4 : (t : ℕ) → three-lts.Need-same-length-4 (
   after-reads.Asked,
   after-reads.Learnt,
@@ -750,7 +696,6 @@ three-same-length-4 : (t : ℕ) → three-lts.Need-same-length-4 (
 ) (three-at t) three.Post
 three-same-length-4 t c = c .before .before .apply-three .kept .1 .1 .1 .1 .1 .0 ∙ c .before .before .before .before .before .before .before .before .before .eval3 .kept .1 .1 .1 .1 .1 .1 .1 .1 .0 ∙ c .before .before .before .before .before .before .before .before .before .before .before .before .before .before .before .before .eval2 .kept .1 .1 .1 .1 .1 .1 .1 .1 .0 ∙ c .before .before .before .before .before .before .before .before .before .before .before .before .before .before .before .before .before .before .before .before .before .before .before .eval .kept .1 .1 .1 .1 .1 .1 .1 .1 .0
 
--- src/lib.rt:165:1
 three-returns-4 : (t : ℕ) → three-lts.Need-returns-4 (
   after-reads.Asked,
   after-reads.Learnt,
@@ -761,7 +706,6 @@ three-returns-4 : (t : ℕ) → three-lts.Need-returns-4 (
 ) (three-at t) three.Post
 three-returns-4 t c = three-applied (c .before .before .before .before .before .before .before .before .before .before .before .before .before .before .before .before .before .before .before .before .before .before .before .before .before .before .before .before .before .before .args .image .now) (c .before .before .before .before .before .before .before .before .before .before .before .before .before .before .before .before .before .before .before .before .before .before .before .before .before .before .before .before .before .before .args .list .now) (c .before .before .before .before .before .before .before .before .before .before .before .before .before .before .before .before .before .before .before .before .before .before .before .before .before .before .before .before .before .before .args .start) (c .before .before .before .before .before .before .before .before .before .before .before .before .before .before .before .before .before .before .before .before .before .before .before .before .before .before .before .before .before .before .args .end) (c .before .before .before .before .before .before .before .before .before .before .before .before .before .before .before .before .before .before .before .before .before .before .before .before .before .before .before .before .before .before .args .o) (c .before .before .before .before .before .before .before .before .before .before .before .before .before .before .before .before .before .before .before .before .before .before .before .before .before .before .before .before .before .before .args .k) (c .before .before .before .before .before .before .before .before .before .before .before .before .before .before .before .before .before .before .before .before .before .before .before .before .before .before .before .before .before .before .pre .1 .1) (c .before .before .before .before .before .before .before .before .before .before .before .before .before .before .before .before .before .before .before .before .before .before .before .before .before .before .before .before .before .before .pre .1 .2) (c .before .before .before .before .before .before .before .before .before .before .before .before .before .before .before .before .before .before .before .before .before .before .before .before .before .before .before .before .before .before .pre .1 .3) (c .before .before .before .before .before .before .before .before .before .before .before .before .before .before .before .before .before .before .before .before .before .before .before .before .before .before .before .before .before .before .pre .1 .4) (c .before .before .before .before .before .before .before .before .before .before .before .before .before .before .before .before .before .before .before .before .before .before .before .before .before .before .after .result) (c .before .before .before .before .before .before .before .before .before .before .before .before .before .before .before .before .before .before .before .before .before .before .before .before .before .before .after .ensures) (c .before .before .before .before .before .before .before .before .before .before .before .before .before .before .before .before .before .before .before .before .before .before .before .before .before .after2 .result) (c .before .before .before .before .before .before .before .before .before .before .before .before .before .before .before .before .before .before .before .before .before .before .before .before .before .after2 .ensures) (c .before .before .before .before .before .before .before .before .before .before .before .before .before .before .before .before .before .before .before .before .before .before .before .before .before .before .before .before .before .before .args .work .now) _ (c .before .before .before .before .before .before .before .before .before .before .before .before .before .before .before .before .before .before .before .before .before .before .before .eval .result) (c .before .before .before .before .before .before .before .before .before .before .before .before .before .before .before .before .before .before .before .before .before .before .before .eval .ensures) (c .before .before .before .before .before .before .before .before .before .before .before .before .before .before .before .before .before .before .before .la .given .0 .0) (c .before .before .before .before .before .before .before .before .before .before .before .before .before .before .before .before .before .before .before .la .given .1) _ (c .before .before .before .before .before .before .before .before .before .before .before .before .before .before .before .before .eval2 .result) (c .before .before .before .before .before .before .before .before .before .before .before .before .before .before .before .before .eval2 .ensures) (c .before .before .before .before .before .before .before .before .before .before .before .before .lb .given .0 .0) (c .before .before .before .before .before .before .before .before .before .before .before .before .lb .given .1) _ (c .before .before .before .before .before .before .before .before .before .eval3 .result) (c .before .before .before .before .before .before .before .before .before .eval3 .ensures) (c .before .before .before .before .before .lc .given .0 .0) (c .before .before .before .before .before .lc .given .1) (omega (arith, three-slots (c .before .before .before .before .before .before .before .before .before .before .before .before .before .before .before .before .before .before .before .before .before .before .before .before .before .before .before .before .before .before .args .image .now) (c .before .before .before .before .before .before .before .before .before .before .before .before .before .before .before .before .before .before .before .before .before .before .before .before .before .before .before .before .before .before .args .list .now) (c .before .before .before .before .before .before .before .before .before .before .before .before .before .before .before .before .before .before .before .before .before .before .before .before .before .before .before .before .before .before .args .tab .now) (c .before .before .before .before .before .before .before .before .before .before .before .before .before .before .before .before .before .before .before .before .before .before .before .before .before .before .before .before .before .before .args .back .now) (c .before .before .before .before .before .before .before .before .before .before .before .before .before .before .before .before .before .before .before .before .before .before .before .before .before .before .before .before .before .before .args .p .now) (c .before .before .before .before .before .before .before .before .before .before .before .before .before .before .before .before .before .before .before .before .before .before .before .before .before .before .before .before .before .before .args .u .now) (c .before .before .before .before .before .before .before .before .before .before .before .before .before .before .before .before .before .before .before .before .before .before .before .before .before .before .before .before .before .before .args .start) (c .before .before .before .before .before .before .before .before .before .before .before .before .before .before .before .before .before .before .before .before .before .before .before .before .before .before .before .before .before .before .args .end) (c .before .before .before .before .before .before .before .before .before .before .before .before .before .before .before .before .before .before .before .before .before .before .before .before .before .before .before .before .before .before .args .o) (length (c .before .before .before .before .before .before .before .before .before .before .before .before .before .before .before .before .before .before .before .before .before .before .before .before .before .before .before .before .before .before .args .work .now)) (c .before .before .before .before .before .before .before .before .before .before .before .before .before .before .before .before .before .before .before .before .before .before .before .before .before .before .before .before .before .before .pre .1 .0) (c .before .before .before .before .before .before .before .before .before .before .before .before .before .before .before .before .before .before .before .before .before .before .before .before .before .before .before .before .before .before .args .k) (c .before .before .before .before .before .before .before .before .before .before .before .before .before .before .before .before .before .before .before .before .before .before .before .before .before .before .before .before .before .before .pre .1 .1) (c .before .before .before .before .before .before .before .before .before .before .before .before .before .before .before .before .before .before .before .before .before .before .before .before .before .before .before .before .before .before .pre .1 .2) (c .before .before .before .before .before .before .before .before .before .before .before .before .before .before .before .before .before .before .before .before .before .before .before .before .before .before .before .before .before .before .pre .1 .3) (c .before .before .before .before .before .before .before .before .before .before .before .before .before .before .before .before .before .before .before .before .before .before .before .before .before .before .before .before .before .before .pre .1 .4), c .before .before .before .before .before .before .before .before .before .before .before .before .before .before .before .before .before .before .before .before .before .before .before .eval .kept .1 .1 .1 .1 .1 .1 .1 .1 .0)) (omega (arith, three-slots (c .before .before .before .before .before .before .before .before .before .before .before .before .before .before .before .before .before .before .before .before .before .before .before .before .before .before .before .before .before .before .args .image .now) (c .before .before .before .before .before .before .before .before .before .before .before .before .before .before .before .before .before .before .before .before .before .before .before .before .before .before .before .before .before .before .args .list .now) (c .before .before .before .before .before .before .before .before .before .before .before .before .before .before .before .before .before .before .before .before .before .before .before .before .before .before .before .before .before .before .args .tab .now) (c .before .before .before .before .before .before .before .before .before .before .before .before .before .before .before .before .before .before .before .before .before .before .before .before .before .before .before .before .before .before .args .back .now) (c .before .before .before .before .before .before .before .before .before .before .before .before .before .before .before .before .before .before .before .before .before .before .before .before .before .before .before .before .before .before .args .p .now) (c .before .before .before .before .before .before .before .before .before .before .before .before .before .before .before .before .before .before .before .before .before .before .before .before .before .before .before .before .before .before .args .u .now) (c .before .before .before .before .before .before .before .before .before .before .before .before .before .before .before .before .before .before .before .before .before .before .before .before .before .before .before .before .before .before .args .start) (c .before .before .before .before .before .before .before .before .before .before .before .before .before .before .before .before .before .before .before .before .before .before .before .before .before .before .before .before .before .before .args .end) (c .before .before .before .before .before .before .before .before .before .before .before .before .before .before .before .before .before .before .before .before .before .before .before .before .before .before .before .before .before .before .args .o) (length (c .before .before .before .before .before .before .before .before .before .before .before .before .before .before .before .before .before .before .before .before .before .before .before .before .before .before .before .before .before .before .args .work .now)) (c .before .before .before .before .before .before .before .before .before .before .before .before .before .before .before .before .before .before .before .before .before .before .before .before .before .before .before .before .before .before .pre .1 .0) (c .before .before .before .before .before .before .before .before .before .before .before .before .before .before .before .before .before .before .before .before .before .before .before .before .before .before .before .before .before .before .args .k) (c .before .before .before .before .before .before .before .before .before .before .before .before .before .before .before .before .before .before .before .before .before .before .before .before .before .before .before .before .before .before .pre .1 .1) (c .before .before .before .before .before .before .before .before .before .before .before .before .before .before .before .before .before .before .before .before .before .before .before .before .before .before .before .before .before .before .pre .1 .2) (c .before .before .before .before .before .before .before .before .before .before .before .before .before .before .before .before .before .before .before .before .before .before .before .before .before .before .before .before .before .before .pre .1 .3) (c .before .before .before .before .before .before .before .before .before .before .before .before .before .before .before .before .before .before .before .before .before .before .before .before .before .before .before .before .before .before .pre .1 .4), c .before .before .before .before .before .before .before .before .before .before .before .before .before .before .before .before .before .before .before .before .before .before .before .eval .kept .1 .1 .1 .1 .1 .1 .1 .1 .0, c .before .before .before .before .before .before .before .before .before .before .before .before .before .before .before .before .eval2 .kept .1 .1 .1 .1 .1 .1 .1 .1 .0)) (omega (arith, three-slots (c .before .before .before .before .before .before .before .before .before .before .before .before .before .before .before .before .before .before .before .before .before .before .before .before .before .before .before .before .before .before .args .image .now) (c .before .before .before .before .before .before .before .before .before .before .before .before .before .before .before .before .before .before .before .before .before .before .before .before .before .before .before .before .before .before .args .list .now) (c .before .before .before .before .before .before .before .before .before .before .before .before .before .before .before .before .before .before .before .before .before .before .before .before .before .before .before .before .before .before .args .tab .now) (c .before .before .before .before .before .before .before .before .before .before .before .before .before .before .before .before .before .before .before .before .before .before .before .before .before .before .before .before .before .before .args .back .now) (c .before .before .before .before .before .before .before .before .before .before .before .before .before .before .before .before .before .before .before .before .before .before .before .before .before .before .before .before .before .before .args .p .now) (c .before .before .before .before .before .before .before .before .before .before .before .before .before .before .before .before .before .before .before .before .before .before .before .before .before .before .before .before .before .before .args .u .now) (c .before .before .before .before .before .before .before .before .before .before .before .before .before .before .before .before .before .before .before .before .before .before .before .before .before .before .before .before .before .before .args .start) (c .before .before .before .before .before .before .before .before .before .before .before .before .before .before .before .before .before .before .before .before .before .before .before .before .before .before .before .before .before .before .args .end) (c .before .before .before .before .before .before .before .before .before .before .before .before .before .before .before .before .before .before .before .before .before .before .before .before .before .before .before .before .before .before .args .o) (length (c .before .before .before .before .before .before .before .before .before .before .before .before .before .before .before .before .before .before .before .before .before .before .before .before .before .before .before .before .before .before .args .work .now)) (c .before .before .before .before .before .before .before .before .before .before .before .before .before .before .before .before .before .before .before .before .before .before .before .before .before .before .before .before .before .before .pre .1 .0) (c .before .before .before .before .before .before .before .before .before .before .before .before .before .before .before .before .before .before .before .before .before .before .before .before .before .before .before .before .before .before .args .k) (c .before .before .before .before .before .before .before .before .before .before .before .before .before .before .before .before .before .before .before .before .before .before .before .before .before .before .before .before .before .before .pre .1 .1) (c .before .before .before .before .before .before .before .before .before .before .before .before .before .before .before .before .before .before .before .before .before .before .before .before .before .before .before .before .before .before .pre .1 .2) (c .before .before .before .before .before .before .before .before .before .before .before .before .before .before .before .before .before .before .before .before .before .before .before .before .before .before .before .before .before .before .pre .1 .3) (c .before .before .before .before .before .before .before .before .before .before .before .before .before .before .before .before .before .before .before .before .before .before .before .before .before .before .before .before .before .before .pre .1 .4), c .before .before .before .before .before .before .before .before .before .before .before .before .before .before .before .before .before .before .before .before .before .before .before .eval .kept .1 .1 .1 .1 .1 .1 .1 .1 .0, c .before .before .before .before .before .before .before .before .before .before .before .before .before .before .before .before .eval2 .kept .1 .1 .1 .1 .1 .1 .1 .1 .0, c .before .before .before .before .before .before .before .before .before .eval3 .kept .1 .1 .1 .1 .1 .1 .1 .1 .0)) _ (c .before .before .apply-three .result) (c .before .before .apply-three .ensures)
 
--- src/lib.rt:141:17
 two-add-first : (t : ℕ) → two-lts.Need-add-first (
   after-reads.Asked,
   after-reads.Learnt,
@@ -772,7 +716,6 @@ two-add-first : (t : ℕ) → two-lts.Need-add-first (
 ) (two-at t) two.Post
 two-add-first t c = omega (arith, ready-head (c .before .before .before .args .image .now) (c .before .before .before .args .list .now) (c .before .before .before .args .tab .now) (c .before .before .before .args .back .now) (c .before .before .before .args .p .now) (c .before .before .before .args .u .now) (c .before .before .before .args .start) (c .before .before .before .args .end) (c .before .before .before .args .o) (length (c .before .before .before .args .work .now)) (c .before .before .before .pre .1 .0))
 
--- src/lib.rt:142:9
 two-after-requires : (t : ℕ) → two-lts.Need-after-requires (
   after-reads.Asked,
   after-reads.Learnt,
@@ -783,7 +726,6 @@ two-after-requires : (t : ℕ) → two-lts.Need-after-requires (
 ) (two-at t) two.Post
 two-after-requires t c κs = two-after (c .before .before .before .args .image .now) (c .before .before .before .args .list .now) (c .before .before .before .args .tab .now) (c .before .before .before .args .back .now) (c .before .before .before .args .p .now) (c .before .before .before .args .u .now) (c .before .before .before .args .start) (c .before .before .before .args .end) (c .before .before .before .args .o) (length (c .before .before .before .args .work .now)) (c .before .before .before .pre .1 .0) (c .before .before .before .args .k) (c .before .before .before .pre .1 .1) (c .before .before .before .pre .1 .2)
 
--- src/lib.rt:143:11
 two-eval-requires : (t : ℕ) → two-lts.Need-eval-requires (
   after-reads.Asked,
   after-reads.Learnt,
@@ -794,7 +736,6 @@ two-eval-requires : (t : ℕ) → two-lts.Need-eval-requires (
 ) (two-at t) two.Post
 two-eval-requires t c κs = (omega (arith, two-between (c .before .before .before .before .before .args .image .now) (c .before .before .before .before .before .args .list .now) (c .before .before .before .before .before .args .tab .now) (c .before .before .before .before .before .args .back .now) (c .before .before .before .before .before .args .p .now) (c .before .before .before .before .before .args .u .now) (c .before .before .before .before .before .args .start) (c .before .before .before .before .before .args .end) (c .before .before .before .before .before .args .o) (length (c .before .before .before .before .before .args .work .now)) (c .before .before .before .before .before .pre .1 .0) (c .before .before .before .before .before .args .k) (c .before .before .before .before .before .pre .1 .1) (c .before .before .before .before .before .pre .1 .2) (c .before .after .result) (c .before .after .ensures), ready-order (c .before .before .before .before .before .args .image .now) (c .before .before .before .before .before .args .list .now) (c .before .before .before .before .before .args .tab .now) (c .before .before .before .before .before .args .back .now) (c .before .before .before .before .before .args .p .now) (c .before .before .before .before .before .args .u .now) (c .before .before .before .before .before .args .start) (c .before .before .before .before .before .args .end) (c .before .before .before .before .before .args .o) (length (c .before .before .before .before .before .args .work .now)) (c .before .before .before .before .before .pre .1 .0), c .before .before .before .before .before .pre .0), two-first (c .before .before .before .before .before .args .image .now) (c .before .before .before .before .before .args .list .now) (c .before .before .before .before .before .args .tab .now) (c .before .before .before .before .before .args .back .now) (c .before .before .before .before .before .args .p .now) (c .before .before .before .before .before .args .u .now) (c .before .before .before .before .before .args .start) (c .before .before .before .before .before .args .end) (c .before .before .before .before .before .args .o) (length (c .before .before .before .before .before .args .work .now)) (c .before .before .before .before .before .pre .1 .0) (c .before .before .before .before .before .args .k) (c .before .before .before .before .before .pre .1 .1) (c .before .before .before .before .before .pre .1 .2) (c .before .after .result) (c .before .after .ensures))
 
--- src/lib.rt:144:23
 two-enum-known-n : (t : ℕ) → two-lts.Need-enum-known-n (
   after-reads.Asked,
   after-reads.Learnt,
@@ -805,7 +746,6 @@ two-enum-known-n : (t : ℕ) → two-lts.Need-enum-known-n (
 ) (two-at t) two.Post
 two-enum-known-n t c = search needs
 
--- src/lib.rt:145:20
 two-enum-known-la : (t : ℕ) → two-lts.Need-enum-known-la (
   after-reads.Asked,
   after-reads.Learnt,
@@ -816,7 +756,6 @@ two-enum-known-la : (t : ℕ) → two-lts.Need-enum-known-la (
 ) (two-at t) two.Post
 two-enum-known-la t c = search needs
 
--- src/lib.rt:156:17
 two-add-eval : (t : ℕ) → two-lts.Need-add-eval (
   after-reads.Asked,
   after-reads.Learnt,
@@ -827,7 +766,6 @@ two-add-eval : (t : ℕ) → two-lts.Need-add-eval (
 ) (two-at t) two.Post
 two-add-eval t c = omega (arith, two-slots (c .before .before .before .before .before .before .before .before .before .before .before .before .args .image .now) (c .before .before .before .before .before .before .before .before .before .before .before .before .args .list .now) (c .before .before .before .before .before .before .before .before .before .before .before .before .args .tab .now) (c .before .before .before .before .before .before .before .before .before .before .before .before .args .back .now) (c .before .before .before .before .before .before .before .before .before .before .before .before .args .p .now) (c .before .before .before .before .before .before .before .before .before .before .before .before .args .u .now) (c .before .before .before .before .before .before .before .before .before .before .before .before .args .start) (c .before .before .before .before .before .before .before .before .before .before .before .before .args .end) (c .before .before .before .before .before .before .before .before .before .before .before .before .args .o) (length (c .before .before .before .before .before .before .before .before .before .before .before .before .args .work .now)) (c .before .before .before .before .before .before .before .before .before .before .before .before .pre .1 .0) (c .before .before .before .before .before .before .before .before .before .before .before .before .args .k) (c .before .before .before .before .before .before .before .before .before .before .before .before .pre .1 .1) (c .before .before .before .before .before .before .before .before .before .before .before .before .pre .1 .2))
 
--- src/lib.rt:146:19
 two-eval-requires-2 : (t : ℕ) → two-lts.Need-eval-requires-2 (
   after-reads.Asked,
   after-reads.Learnt,
@@ -838,7 +776,6 @@ two-eval-requires-2 : (t : ℕ) → two-lts.Need-eval-requires-2 (
 ) (two-at t) two.Post
 two-eval-requires-2 t c κs = (omega (arith, two-between (c .before .before .before .before .before .before .before .before .before .before .before .before .args .image .now) (c .before .before .before .before .before .before .before .before .before .before .before .before .args .list .now) (c .before .before .before .before .before .before .before .before .before .before .before .before .args .tab .now) (c .before .before .before .before .before .before .before .before .before .before .before .before .args .back .now) (c .before .before .before .before .before .before .before .before .before .before .before .before .args .p .now) (c .before .before .before .before .before .before .before .before .before .before .before .before .args .u .now) (c .before .before .before .before .before .before .before .before .before .before .before .before .args .start) (c .before .before .before .before .before .before .before .before .before .before .before .before .args .end) (c .before .before .before .before .before .before .before .before .before .before .before .before .args .o) (length (c .before .before .before .before .before .before .before .before .before .before .before .before .args .work .now)) (c .before .before .before .before .before .before .before .before .before .before .before .before .pre .1 .0) (c .before .before .before .before .before .before .before .before .before .before .before .before .args .k) (c .before .before .before .before .before .before .before .before .before .before .before .before .pre .1 .1) (c .before .before .before .before .before .before .before .before .before .before .before .before .pre .1 .2) (c .before .before .before .before .before .before .before .before .after .result) (c .before .before .before .before .before .before .before .before .after .ensures), ready-order (c .before .before .before .before .before .before .before .before .before .before .before .before .args .image .now) (c .before .before .before .before .before .before .before .before .before .before .before .before .args .list .now) (c .before .before .before .before .before .before .before .before .before .before .before .before .args .tab .now) (c .before .before .before .before .before .before .before .before .before .before .before .before .args .back .now) (c .before .before .before .before .before .before .before .before .before .before .before .before .args .p .now) (c .before .before .before .before .before .before .before .before .before .before .before .before .args .u .now) (c .before .before .before .before .before .before .before .before .before .before .before .before .args .start) (c .before .before .before .before .before .before .before .before .before .before .before .before .args .end) (c .before .before .before .before .before .before .before .before .before .before .before .before .args .o) (length (c .before .before .before .before .before .before .before .before .before .before .before .before .args .work .now)) (c .before .before .before .before .before .before .before .before .before .before .before .before .pre .1 .0), c .before .before .before .before .before .before .before .before .before .before .before .before .pre .0), ready-in (c .before .before .before .before .before .before .before .before .before .before .before .before .args .image .now) (c .before .before .before .before .before .before .before .before .before .before .before .before .args .list .now) (c .before .before .before .before .before .before .before .before .before .before .before .before .args .tab .now) (c .before .before .before .before .before .before .before .before .before .before .before .before .args .back .now) (c .before .before .before .before .before .before .before .before .before .before .before .before .args .p .now) (c .before .before .before .before .before .before .before .before .before .before .before .before .args .u .now) (c .before .before .before .before .before .before .before .before .after .result) (c .before .before .before .before .before .before .before .before .before .before .before .before .args .end) ((c .before .before .before .before .before .before .before .before .before .before .before .before .args .o) + 1024) (length (c .before .before .before .before .before .before .before .before .before .before .before .before .args .work .now)) _ (c .before .before .before .before .before .before .eval .kept .1 .1 .1 .1 .1 .1 .1 .1 .0) (two-second (c .before .before .before .before .before .before .before .before .before .before .before .before .args .image .now) (c .before .before .before .before .before .before .before .before .before .before .before .before .args .list .now) (c .before .before .before .before .before .before .before .before .before .before .before .before .args .tab .now) (c .before .before .before .before .before .before .before .before .before .before .before .before .args .back .now) (c .before .before .before .before .before .before .before .before .before .before .before .before .args .p .now) (c .before .before .before .before .before .before .before .before .before .before .before .before .args .u .now) (c .before .before .before .before .before .before .before .before .before .before .before .before .args .start) (c .before .before .before .before .before .before .before .before .before .before .before .before .args .end) (c .before .before .before .before .before .before .before .before .before .before .before .before .args .o) (length (c .before .before .before .before .before .before .before .before .before .before .before .before .args .work .now)) (c .before .before .before .before .before .before .before .before .before .before .before .before .pre .1 .0) (c .before .before .before .before .before .before .before .before .before .before .before .before .args .k) (c .before .before .before .before .before .before .before .before .before .before .before .before .pre .1 .1) (c .before .before .before .before .before .before .before .before .before .before .before .before .pre .1 .2) (c .before .before .before .before .before .before .before .before .after .result) (c .before .before .before .before .before .before .before .before .after .ensures)))
 
--- src/lib.rt:158:31
 two-enum-known-n-2 : (t : ℕ) → two-lts.Need-enum-known-n-2 (
   after-reads.Asked,
   after-reads.Learnt,
@@ -849,7 +786,6 @@ two-enum-known-n-2 : (t : ℕ) → two-lts.Need-enum-known-n-2 (
 ) (two-at t) two.Post
 two-enum-known-n-2 t c = search needs
 
--- src/lib.rt:159:28
 two-enum-known-lb : (t : ℕ) → two-lts.Need-enum-known-lb (
   after-reads.Asked,
   after-reads.Learnt,
@@ -860,7 +796,6 @@ two-enum-known-lb : (t : ℕ) → two-lts.Need-enum-known-lb (
 ) (two-at t) two.Post
 two-enum-known-lb t c = search needs
 
--- src/lib.rt:159:35
 two-apply-two-requires : (t : ℕ) → two-lts.Need-apply-two-requires (
   after-reads.Asked,
   after-reads.Learnt,
@@ -871,7 +806,6 @@ two-apply-two-requires : (t : ℕ) → two-lts.Need-apply-two-requires (
 ) (two-at t) two.Post
 two-apply-two-requires t c κs = (omega (arith, two-slots (c .before .before .before .before .before .before .before .before .before .before .before .before .before .before .before .before .before .before .before .args .image .now) (c .before .before .before .before .before .before .before .before .before .before .before .before .before .before .before .before .before .before .before .args .list .now) (c .before .before .before .before .before .before .before .before .before .before .before .before .before .before .before .before .before .before .before .args .tab .now) (c .before .before .before .before .before .before .before .before .before .before .before .before .before .before .before .before .before .before .before .args .back .now) (c .before .before .before .before .before .before .before .before .before .before .before .before .before .before .before .before .before .before .before .args .p .now) (c .before .before .before .before .before .before .before .before .before .before .before .before .before .before .before .before .before .before .before .args .u .now) (c .before .before .before .before .before .before .before .before .before .before .before .before .before .before .before .before .before .before .before .args .start) (c .before .before .before .before .before .before .before .before .before .before .before .before .before .before .before .before .before .before .before .args .end) (c .before .before .before .before .before .before .before .before .before .before .before .before .before .before .before .before .before .before .before .args .o) (length (c .before .before .before .before .before .before .before .before .before .before .before .before .before .before .before .before .before .before .before .args .work .now)) (c .before .before .before .before .before .before .before .before .before .before .before .before .before .before .before .before .before .before .before .pre .1 .0) (c .before .before .before .before .before .before .before .before .before .before .before .before .before .before .before .before .before .before .before .args .k) (c .before .before .before .before .before .before .before .before .before .before .before .before .before .before .before .before .before .before .before .pre .1 .1) (c .before .before .before .before .before .before .before .before .before .before .before .before .before .before .before .before .before .before .before .pre .1 .2), c .before .before .before .before .before .before .before .before .before .before .before .before .before .eval .kept .1 .1 .1 .1 .1 .1 .1 .1 .0, c .before .before .before .before .before .before .eval2 .kept .1 .1 .1 .1 .1 .1 .1 .1 .0), told-small (c .before .before .before .before .before .before .before .before .before .before .before .before .before .before .before .before .before .before .before .args .image .now) (c .before .before .before .before .before .before .before .before .before .before .before .before .before .before .before .before .before .before .before .args .list .now) (c .before .before .before .before .before .before .before .before .before .before .before .before .before .before .before .before .before .before .before .args .tab .now) (c .before .before .before .before .before .before .before .before .before .before .before .before .before .before .before .before .before .before .before .args .back .now) (c .before .before .before .before .before .before .before .before .before .before .before .before .before .before .before .before .before .before .before .args .p .now) (c .before .before .before .before .before .before .before .before .before .before .before .before .before .before .before .before .before .before .before .args .u .now) ((c .before .before .before .before .before .before .before .before .before .before .before .before .before .before .before .before .before .before .before .args .start) + 4) (c .before .before .before .before .before .before .before .before .before .before .before .before .before .before .before .after .result) (c .before .before .before .before .before .before .before .before .before .before .before .before .before .before .before .before .before .before .before .args .o) (c .before .before .before .before .before .before .before .before .before .before .before .before .before .before .before .before .before .before .before .args .o) (length (c .before .before .before .before .before .before .before .before .before .before .before .before .before .before .before .before .before .before .before .args .work .now)) (c .before .before .before .before .before .before .before .before .before .la .given .0 .0) _ _ (c .before .before .before .before .before .before .before .before .before .before .before .before .before .eval .result) (two-first (c .before .before .before .before .before .before .before .before .before .before .before .before .before .before .before .before .before .before .before .args .image .now) (c .before .before .before .before .before .before .before .before .before .before .before .before .before .before .before .before .before .before .before .args .list .now) (c .before .before .before .before .before .before .before .before .before .before .before .before .before .before .before .before .before .before .before .args .tab .now) (c .before .before .before .before .before .before .before .before .before .before .before .before .before .before .before .before .before .before .before .args .back .now) (c .before .before .before .before .before .before .before .before .before .before .before .before .before .before .before .before .before .before .before .args .p .now) (c .before .before .before .before .before .before .before .before .before .before .before .before .before .before .before .before .before .before .before .args .u .now) (c .before .before .before .before .before .before .before .before .before .before .before .before .before .before .before .before .before .before .before .args .start) (c .before .before .before .before .before .before .before .before .before .before .before .before .before .before .before .before .before .before .before .args .end) (c .before .before .before .before .before .before .before .before .before .before .before .before .before .before .before .before .before .before .before .args .o) (length (c .before .before .before .before .before .before .before .before .before .before .before .before .before .before .before .before .before .before .before .args .work .now)) (c .before .before .before .before .before .before .before .before .before .before .before .before .before .before .before .before .before .before .before .pre .1 .0) (c .before .before .before .before .before .before .before .before .before .before .before .before .before .before .before .before .before .before .before .args .k) (c .before .before .before .before .before .before .before .before .before .before .before .before .before .before .before .before .before .before .before .pre .1 .1) (c .before .before .before .before .before .before .before .before .before .before .before .before .before .before .before .before .before .before .before .pre .1 .2) (c .before .before .before .before .before .before .before .before .before .before .before .before .before .before .before .after .result) (c .before .before .before .before .before .before .before .before .before .before .before .before .before .before .before .after .ensures)) (c .before .before .before .before .before .before .before .before .before .before .before .before .before .eval .ensures) (c .before .before .before .before .before .before .before .before .before .la .given .1), told-small (c .before .before .before .before .before .before .before .before .before .before .before .before .before .before .before .before .before .before .before .args .image .now) (c .before .before .before .before .before .before .before .before .before .before .before .before .before .before .before .before .before .before .before .args .list .now) (c .before .before .before .before .before .before .before .before .before .before .before .before .before .before .before .before .before .before .before .args .tab .now) (c .before .before .before .before .before .before .before .before .before .before .before .before .before .before .before .before .before .before .before .args .back .now) (c .before .before .before .before .before .before .before .before .before .before .before .before .before .before .before .before .before .before .before .args .p .now) (c .before .before .before .before .before .before .before .before .before .before .before .before .before .before .before .before .before .before .before .args .u .now) (c .before .before .before .before .before .before .before .before .before .before .before .before .before .before .before .after .result) (c .before .before .before .before .before .before .before .before .before .before .before .before .before .before .before .before .before .before .before .args .end) ((c .before .before .before .before .before .before .before .before .before .before .before .before .before .before .before .before .before .before .before .args .o) + 1024) ((c .before .before .before .before .before .before .before .before .before .before .before .before .before .before .before .before .before .before .before .args .o) + 1024) (length (c .before .before .before .before .before .before .before .before .before .before .before .before .before .before .before .before .before .before .before .args .work .now)) (c .before .before .lb .given .0 .0) _ _ (c .before .before .before .before .before .before .eval2 .result) (two-second (c .before .before .before .before .before .before .before .before .before .before .before .before .before .before .before .before .before .before .before .args .image .now) (c .before .before .before .before .before .before .before .before .before .before .before .before .before .before .before .before .before .before .before .args .list .now) (c .before .before .before .before .before .before .before .before .before .before .before .before .before .before .before .before .before .before .before .args .tab .now) (c .before .before .before .before .before .before .before .before .before .before .before .before .before .before .before .before .before .before .before .args .back .now) (c .before .before .before .before .before .before .before .before .before .before .before .before .before .before .before .before .before .before .before .args .p .now) (c .before .before .before .before .before .before .before .before .before .before .before .before .before .before .before .before .before .before .before .args .u .now) (c .before .before .before .before .before .before .before .before .before .before .before .before .before .before .before .before .before .before .before .args .start) (c .before .before .before .before .before .before .before .before .before .before .before .before .before .before .before .before .before .before .before .args .end) (c .before .before .before .before .before .before .before .before .before .before .before .before .before .before .before .before .before .before .before .args .o) (length (c .before .before .before .before .before .before .before .before .before .before .before .before .before .before .before .before .before .before .before .args .work .now)) (c .before .before .before .before .before .before .before .before .before .before .before .before .before .before .before .before .before .before .before .pre .1 .0) (c .before .before .before .before .before .before .before .before .before .before .before .before .before .before .before .before .before .before .before .args .k) (c .before .before .before .before .before .before .before .before .before .before .before .before .before .before .before .before .before .before .before .pre .1 .1) (c .before .before .before .before .before .before .before .before .before .before .before .before .before .before .before .before .before .before .before .pre .1 .2) (c .before .before .before .before .before .before .before .before .before .before .before .before .before .before .before .after .result) (c .before .before .before .before .before .before .before .before .before .before .before .before .before .before .before .after .ensures)) (c .before .before .before .before .before .before .eval2 .ensures) (c .before .before .lb .given .1), (c .before .before .before .before .before .before .before .before .before .before .before .before .before .before .before .before .before .before .before .pre .1 .2), two-lent (c .before .before .before .before .before .before .before .before .before .before .before .before .before .before .before .before .before .before .before .args .image .now) (c .before .before .before .before .before .before .before .before .before .before .before .before .before .before .before .before .before .before .before .args .list .now) (c .before .before .before .before .before .before .before .before .before .before .before .before .before .before .before .before .before .before .before .args .tab .now) (c .before .before .before .before .before .before .before .before .before .before .before .before .before .before .before .before .before .before .before .args .back .now) (c .before .before .before .before .before .before .before .before .before .before .before .before .before .before .before .before .before .before .before .args .p .now) (c .before .before .before .before .before .before .before .before .before .before .before .before .before .before .before .before .before .before .before .args .u .now) (c .before .before .before .before .before .before .before .before .before .before .before .before .before .before .before .before .before .before .before .args .start) (c .before .before .before .before .before .before .before .before .before .before .before .before .before .before .before .before .before .before .before .args .end) (c .before .before .before .before .before .before .before .before .before .before .before .before .before .before .before .before .before .before .before .args .o) (length (c .before .before .before .before .before .before .before .before .before .before .before .before .before .before .before .before .before .before .before .args .work .now)) (c .before .before .before .before .before .before .before .before .before .before .before .before .before .before .before .before .before .before .before .pre .1 .0) (c .before .before .before .before .before .before .before .before .before .before .before .before .before .before .before .before .before .before .before .args .k) (c .before .before .before .before .before .before .before .before .before .before .before .before .before .before .before .before .before .before .before .pre .1 .1) (c .before .before .before .before .before .before .before .before .before .before .before .before .before .before .before .before .before .before .before .pre .1 .2))
 
--- src/lib.rt:125:1
 two-same-length : (t : ℕ) → two-lts.Need-same-length (
   after-reads.Asked,
   after-reads.Learnt,
@@ -882,7 +816,6 @@ two-same-length : (t : ℕ) → two-lts.Need-same-length (
 ) (two-at t) two.Post
 two-same-length t c = search needs
 
--- src/lib.rt:125:1
 two-returns : (t : ℕ) → two-lts.Need-returns (
   after-reads.Asked,
   after-reads.Learnt,
@@ -893,7 +826,6 @@ two-returns : (t : ℕ) → two-lts.Need-returns (
 ) (two-at t) two.Post
 two-returns t c = two-refused-first (c .before .before .before .before .before .before .before .before .before .before .before .args .image .now) (c .before .before .before .before .before .before .before .before .before .before .before .args .list .now) (c .before .before .before .before .before .before .before .before .before .before .before .args .start) (c .before .before .before .before .before .before .before .before .before .before .before .args .end) (c .before .before .before .before .before .before .before .before .before .before .before .args .o) (c .before .before .before .before .before .before .before .before .before .before .before .args .k) (c .before .before .before .before .before .before .before .before .before .before .before .pre .1 .1) (c .before .before .before .before .before .before .before .before .before .before .before .pre .1 .2) (c .before .before .before .before .before .before .before .after .result) (c .before .before .before .before .before .before .before .after .ensures) (c .before .before .before .before .before .before .before .before .before .before .before .args .work .now) _ (c .before .before .before .before .before .eval .result) (c .before .before .before .before .before .eval .ensures) (c .before .n .given .0 .0) (c .before .n .given .1)
 
--- src/lib.rt:125:1
 two-same-length-2 : (t : ℕ) → two-lts.Need-same-length-2 (
   after-reads.Asked,
   after-reads.Learnt,
@@ -904,7 +836,6 @@ two-same-length-2 : (t : ℕ) → two-lts.Need-same-length-2 (
 ) (two-at t) two.Post
 two-same-length-2 t c = search needs
 
--- src/lib.rt:125:1
 two-returns-2 : (t : ℕ) → two-lts.Need-returns-2 (
   after-reads.Asked,
   after-reads.Learnt,
@@ -915,7 +846,6 @@ two-returns-2 : (t : ℕ) → two-lts.Need-returns-2 (
 ) (two-at t) two.Post
 two-returns-2 t c = two-refused-second (c .before .before .before .before .before .before .before .before .before .before .before .before .before .before .before .before .before .before .args .image .now) (c .before .before .before .before .before .before .before .before .before .before .before .before .before .before .before .before .before .before .args .list .now) (c .before .before .before .before .before .before .before .before .before .before .before .before .before .before .before .before .before .before .args .start) (c .before .before .before .before .before .before .before .before .before .before .before .before .before .before .before .before .before .before .args .end) (c .before .before .before .before .before .before .before .before .before .before .before .before .before .before .before .before .before .before .args .o) (c .before .before .before .before .before .before .before .before .before .before .before .before .before .before .before .before .before .before .args .k) (c .before .before .before .before .before .before .before .before .before .before .before .before .before .before .before .before .before .before .pre .1 .1) (c .before .before .before .before .before .before .before .before .before .before .before .before .before .before .before .before .before .before .pre .1 .2) (c .before .before .before .before .before .before .before .before .before .before .before .before .before .before .after .result) (c .before .before .before .before .before .before .before .before .before .before .before .before .before .before .after .ensures) (c .before .before .before .before .before .before .before .before .before .before .before .before .before .before .before .before .before .before .args .work .now) _ (c .before .before .before .before .before .before .before .before .before .before .before .before .eval .result) (c .before .before .before .before .before .before .before .before .before .before .before .before .eval .ensures) (c .before .before .before .before .before .before .before .before .la .given .0 .0) (c .before .before .before .before .before .before .before .before .la .given .1) _ (c .before .before .before .before .before .eval2 .result) (c .before .before .before .before .before .eval2 .ensures) (c .before .n2 .given .0 .0) (c .before .n2 .given .1)
 
--- src/lib.rt:125:1
 two-same-length-3 : (t : ℕ) → two-lts.Need-same-length-3 (
   after-reads.Asked,
   after-reads.Learnt,
@@ -926,7 +856,6 @@ two-same-length-3 : (t : ℕ) → two-lts.Need-same-length-3 (
 ) (two-at t) two.Post
 two-same-length-3 t c = search needs
 
--- src/lib.rt:125:1
 two-returns-3 : (t : ℕ) → two-lts.Need-returns-3 (
   after-reads.Asked,
   after-reads.Learnt,

@@ -3,55 +3,42 @@ use borrow.Author.Needs.{needs}
 use Rattle.evaluating.proofs.give_leaf.Statement.{statement}
 use Rattle.evaluating.proofs.give_leaf.Tie as tie
 
--- src/lib.rt:19:9
 place-of-requires : tie.Need-place-of-requires
 place-of-requires c κs = search needs
 
--- src/lib.rt:21:27
 enum-told : tie.Need-enum-told
 enum-told c = search needs
 
--- src/lib.rt:22:22
 enum-known-place : tie.Need-enum-known-place
 enum-known-place c = search needs
 
--- src/lib.rt:22:49
 leaf-requires : tie.Need-leaf-requires
 leaf-requires c κs = search needs
 
--- src/lib.rt:22:35
 hand-requires : tie.Need-hand-requires
 hand-requires c κs = search needs
 
--- src/lib.rt:23:21
 enum-known-place-2 : tie.Need-enum-known-place-2
 enum-known-place-2 c = search needs
 
--- src/lib.rt:23:48
 leaf-requires-2 : tie.Need-leaf-requires-2
 leaf-requires-2 c κs = search needs
 
--- src/lib.rt:23:34
 hand-requires-2 : tie.Need-hand-requires-2
 hand-requires-2 c κs = search needs
 
--- src/lib.rt:16:1
 returns : tie.Need-returns
 returns c = leaf-nowhere (c .before .before .before .before .before .before .args .image .now) (c .before .before .before .before .before .before .args .list .now) (c .before .before .before .before .before .before .args .out .now) (c .before .before .place-of .result) _ (c .before .before .place-of .ensures) (c .enum-told .given .1)
 
--- src/lib.rt:16:1
 same-length : tie.Need-same-length
 same-length c = search needs
 
--- src/lib.rt:16:1
 returns-2 : tie.Need-returns-2
 returns-2 c = leaf-image (c .before .before .before .before .before .before .before .before .before .before .before .before .args .image .now) (c .before .before .before .before .before .before .before .before .before .before .before .before .args .list .now) (c .before .before .before .before .before .before .before .before .before .before .before .before .args .out .now) (c .before .before .before .before .before .before .before .before .place-of .result) _ (c .before .before .before .before .before .before .before .before .place-of .ensures) (c .before .before .before .before .before .before .place .given .0 .0) (c .before .before .before .before .before .before .place .given .0 .1 .0) (c .before .before .before .before .before .before .place .given .1) (c .before .before .before .before .leaf .result .now) _ (c .before .before .before .before .leaf .ensures) (c .before .before .hand .ensures)
 
--- src/lib.rt:16:1
 same-length-2 : tie.Need-same-length-2
 same-length-2 c = search needs
 
--- src/lib.rt:16:1
 returns-3 : tie.Need-returns-3
 returns-3 c = leaf-list (c .before .before .before .before .before .before .before .before .before .before .before .before .args .image .now) (c .before .before .before .before .before .before .before .before .before .before .before .before .args .list .now) (c .before .before .before .before .before .before .before .before .before .before .before .before .args .out .now) (c .before .before .before .before .before .before .before .before .place-of .result) _ (c .before .before .before .before .before .before .before .before .place-of .ensures) (c .before .before .before .before .before .before .place2 .given .0 .0) (c .before .before .before .before .before .before .place2 .given .0 .1 .0) (c .before .before .before .before .before .before .place2 .given .1) (c .before .before .before .before .leaf2 .result .now) _ (c .before .before .before .before .leaf2 .ensures) (c .before .before .hand2 .ensures)
 

@@ -3,15 +3,12 @@ use borrow.Author.Needs.{needs}
 use Rattle.evaluating.proofs.side.Statement.{statement}
 use Rattle.evaluating.proofs.side.Tie as tie
 
--- src/lib.rt:41:16
 shared-slice-read-result : tie.Need-shared-slice-read-result
 shared-slice-read-result c = search needs
 
--- src/lib.rt:41:9
 returns : tie.Need-returns
 returns c = side-one (c .before .before .args .work .now) (c .before .before .args .o) (c .before .before .args .n) (c .before .before .pre) (c .before .if1 .taken)
 
--- src/lib.rt:36:1
 returns-2 : tie.Need-returns-2
 returns-2 c = side-none (c .before .args .work .now) (c .before .args .o) (c .before .args .n) (c .before .pre) (c .if1 .left)
 

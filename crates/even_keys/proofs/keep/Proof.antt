@@ -20,63 +20,48 @@ Inv-loop ks₀ at s a w c j₀ ks j = (j ≤ c) × Stored at j (λ j. (wordAt s 
 abbrev μ-loop : tie.MeasureT-loop
 μ-loop ks₀ at s a w c j₀ ks j = c - j
 
--- src/lib.rt:121:5
 loop-holds : tie.Need-loop-holds Inv-loop μ-loop
 loop-holds c = (omega arith, stored-none (c .before .before .before .args .at) (λ j. (wordAt (now (c .before .before .before .args .s)) (c .before .before .before .args .w + j) + getD (now (c .before .before .before .args .a)) (c .before .before .before .args .w + j) 0) % 2 ^ 64) (now (c .before .before .before .args .ks)))
 
--- src/lib.rt:122:46
 add-word-at : tie.Need-add-word-at Inv-loop μ-loop
 add-word-at c = search needs
 
--- src/lib.rt:122:28
 word-at-requires : tie.Need-word-at-requires Inv-loop μ-loop
 word-at-requires c κs = search needs
 
--- src/lib.rt:122:56
 add-added : tie.Need-add-added Inv-loop μ-loop
 add-added c = search needs
 
--- src/lib.rt:122:54
 mul-added : tie.Need-mul-added Inv-loop μ-loop
 mul-added c = search needs
 
--- src/lib.rt:122:54
 shared-slice-read-added : tie.Need-shared-slice-read-added Inv-loop μ-loop
 shared-slice-read-added c = search needs
 
--- src/lib.rt:122:22
 added-requires : tie.Need-added-requires Inv-loop μ-loop
 added-requires c κs = search needs
 
--- src/lib.rt:122:12
 add-ks : tie.Need-add-ks Inv-loop μ-loop
 add-ks c = search needs
 
--- src/lib.rt:122:9
 mul-ks : tie.Need-mul-ks Inv-loop μ-loop
 mul-ks c = omega (arith, c .before .before .before .before .before .before .before .before .good)
 
--- src/lib.rt:122:9
 slice-write-ks : tie.Need-slice-write-ks Inv-loop μ-loop
 slice-write-ks c = omega (arith, c .before .before .before .before .loop .inv .1 .long)
 
--- src/lib.rt:123:9
 add-j : tie.Need-add-j Inv-loop μ-loop
 add-j c = search needs
 
--- src/lib.rt:121:5
 loop-less : tie.Need-loop-less Inv-loop μ-loop
 loop-less c = search needs
 
--- src/lib.rt:121:5
 loop-again : tie.Need-loop-again Inv-loop μ-loop
 loop-again c = (omega arith, stored-more (c .before .before .before .before .before .before .before .before .args .at) (c .before .before .before .before .loop .j) (λ j. (wordAt (now (c .before .before .before .before .before .before .before .before .args .s)) (c .before .before .before .before .before .before .before .before .args .w + j) + getD (now (c .before .before .before .before .before .before .before .before .args .a)) (c .before .before .before .before .before .before .before .before .args .w + j) 0) % 2 ^ 64) (now (c .before .before .before .before .before .before .before .before .args .ks)) (c .before .before .before .before .loop .ks) (c .added .result) (c .before .before .before .before .loop .inv .1) (omega arith) (c .added .ensures ∙ ap (λ x. (x + getD (now (c .before .before .before .before .before .before .before .before .args .a)) (c .before .before .before .before .before .before .before .before .args .w + c .before .before .before .before .loop .j) 0) % 2 ^ 64) (c .before .before .word-at .ensures)))
 
--- src/lib.rt:116:1
 same-length : tie.Need-same-length Inv-loop μ-loop
 same-length c = c .before .loop .inv .1 .long
 
--- src/lib.rt:116:1
 returns : tie.Need-returns Inv-loop μ-loop
 returns c = subst (λ m. Stored (c .before .before .before .before .before .args .at) m (λ j. (wordAt (now (c .before .before .before .before .before .args .s)) (c .before .before .before .before .before .args .w + j) + getD (now (c .before .before .before .before .before .args .a)) (c .before .before .before .before .before .args .w + j) 0) % 2 ^ 64) (now (c .before .before .before .before .before .args .ks)) (c .before .loop .ks)) (omega arith) (c .before .loop .inv .1)
 

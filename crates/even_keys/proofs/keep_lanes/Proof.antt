@@ -25,43 +25,33 @@ Inv-loop ks₀ s a c n at₀ w₀ i₀ ks at w i = (i ≤ n) × (at ≡ c * (2 *
 abbrev μ-loop : tie.MeasureT-loop
 μ-loop ks₀ s a c n at₀ w₀ i₀ ks at w i = n - i
 
--- src/lib.rt:114:5
 loop-holds : tie.Need-loop-holds Inv-loop μ-loop
 loop-holds c = (omega arith, sym (mul-zero (c .before .before .before .args .c)), sym (mul-zero (c .before .before .before .args .c)), spread-none (c .before .before .before .args .c) 0 (λ e. addKey (c .before .before .before .args .c) (keysOf (c .before .before .before .args .c) (now (c .before .before .before .args .a)) e) (blockAt (c .before .before .before .args .c) (now (c .before .before .before .args .s)) e)) (now (c .before .before .before .args .ks)))
 
--- src/lib.rt:115:9
 keep-requires : tie.Need-keep-requires Inv-loop μ-loop
 keep-requires c κs = (omega (arith, place-room (c .before .before .before .before .before .before .args .c) (c .before .before .loop .i) (c .before .before .before .before .before .before .args .n) 0 (c .before .before .loop .at) (length (now (c .before .before .before .before .before .before .args .ks))) (omega arith) (c .before .before .loop .inv .1) (c .before .loop-test .taken) (c .before .before .before .before .before .before .pre .0), c .before .before .loop .inv .3 .long), lane-room (c .before .before .before .before .before .before .args .c) (c .before .before .loop .i) (c .before .before .before .before .before .before .args .n) (c .before .before .loop .w) (length (now (c .before .before .before .before .before .before .args .a))) (c .before .before .loop .inv .2) (c .before .loop-test .taken) (c .before .before .before .before .before .before .pre .1), omega (arith, room (c .before .before .before .before .before .before .args .c) (c .before .before .loop .i) (c .before .before .before .before .before .before .args .n) (length (now (c .before .before .before .before .before .before .args .s))) (c .before .loop-test .taken) (c .before .before .before .before .before .before .pre .2), c .before .before .loop .inv .2))
 
--- src/lib.rt:116:15
 mul-at : tie.Need-mul-at Inv-loop μ-loop
 mul-at c = omega (arith, pair-room (c .before .before .before .before .before .before .before .before .before .args .c) (c .before .before .before .before .before .loop .i) (c .before .before .before .before .before .before .before .before .before .args .n) (c .before .before .before .before .before .loop .at) (length (now (c .before .before .before .before .before .before .before .before .before .args .ks))) (c .before .before .before .before .before .loop .inv .1) (c .before .before .before .before .loop-test .taken) (c .before .before .before .before .before .before .before .before .before .pre .0), c .before .before .before .before .before .before .before .before .before .good)
 
--- src/lib.rt:116:9
 add-at : tie.Need-add-at Inv-loop μ-loop
 add-at c = omega (arith, pair-room (c .before .before .before .before .before .before .before .before .before .args .c) (c .before .before .before .before .before .loop .i) (c .before .before .before .before .before .before .before .before .before .args .n) (c .before .before .before .before .before .loop .at) (length (now (c .before .before .before .before .before .before .before .before .before .args .ks))) (c .before .before .before .before .before .loop .inv .1) (c .before .before .before .before .loop-test .taken) (c .before .before .before .before .before .before .before .before .before .pre .0), c .before .before .before .before .before .before .before .before .before .good)
 
--- src/lib.rt:117:9
 add-w : tie.Need-add-w Inv-loop μ-loop
 add-w c = omega (arith, lane-room (c .before .before .before .before .before .before .before .before .before .args .c) (c .before .before .before .before .before .loop .i) (c .before .before .before .before .before .before .before .before .before .args .n) (c .before .before .before .before .before .loop .w) (length (now (c .before .before .before .before .before .before .before .before .before .args .a))) (c .before .before .before .before .before .loop .inv .2) (c .before .before .before .before .loop-test .taken) (c .before .before .before .before .before .before .before .before .before .pre .1), c .before .before .before .before .before .before .before .before .before .good)
 
--- src/lib.rt:118:9
 add-i : tie.Need-add-i Inv-loop μ-loop
 add-i c = search needs
 
--- src/lib.rt:114:5
 loop-less : tie.Need-loop-less Inv-loop μ-loop
 loop-less c = search needs
 
--- src/lib.rt:114:5
 loop-again : tie.Need-loop-again Inv-loop μ-loop
 loop-again c = (omega arith, next-place (c .before .before .before .before .before .before .before .before .before .args .c) (c .before .before .before .before .before .loop .i) 0 (c .before .before .before .before .before .loop .at) (c .before .before .before .before .before .loop .inv .1), next-block (c .before .before .before .before .before .before .before .before .before .args .c) (c .before .before .before .before .before .loop .i) (c .before .before .before .before .before .loop .w) (c .before .before .before .before .before .loop .inv .2), spread-more (c .before .before .before .before .before .before .before .before .before .args .c) 0 (c .before .before .before .before .before .loop .i) (λ e. addKey (c .before .before .before .before .before .before .before .before .before .args .c) (keysOf (c .before .before .before .before .before .before .before .before .before .args .c) (now (c .before .before .before .before .before .before .before .before .before .args .a)) e) (blockAt (c .before .before .before .before .before .before .before .before .before .args .c) (now (c .before .before .before .before .before .before .before .before .before .args .s)) e)) (now (c .before .before .before .before .before .before .before .before .before .args .ks)) (c .before .before .before .before .before .loop .ks) (c .before .before .keep .last .0) _ (c .before .before .before .before .before .loop .at) (c .before .before .before .before .before .loop .inv .3) (c .before .before .before .before .before .loop .inv .1) (c .before .before .keep .ensures) (kept-is (c .before .before .before .before .before .before .before .before .before .args .c) (c .before .before .before .before .before .loop .i) (c .before .before .before .before .before .loop .w) (now (c .before .before .before .before .before .before .before .before .before .args .a)) (now (c .before .before .before .before .before .before .before .before .before .args .s)) (c .before .before .before .before .before .loop .inv .2)))
 
--- src/lib.rt:107:1
 same-length : tie.Need-same-length Inv-loop μ-loop
 same-length c = c .before .loop .inv .3 .long
 
--- src/lib.rt:107:1
 returns : tie.Need-returns Inv-loop μ-loop
 returns c = subst (λ m. Spread (c .before .before .before .before .before .args .c) 0 m (λ e. addKey (c .before .before .before .before .before .args .c) (keysOf (c .before .before .before .before .before .args .c) (now (c .before .before .before .before .before .args .a)) e) (blockAt (c .before .before .before .before .before .args .c) (now (c .before .before .before .before .before .args .s)) e)) (now (c .before .before .before .before .before .args .ks)) (c .before .loop .ks)) (omega arith) (c .before .loop .inv .3)
 

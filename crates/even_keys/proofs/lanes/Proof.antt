@@ -26,47 +26,36 @@ Inv-loop s₀ a₀ h k c kc n g₀ w₀ i₀ s a g w i = (i ≤ n) × (w ≡ c *
 abbrev μ-loop : tie.MeasureT-loop
 μ-loop s₀ a₀ h k c kc n g₀ w₀ i₀ s a g w i = n - i
 
--- src/lib.rt:93:5
 loop-holds : tie.Need-loop-holds Inv-loop μ-loop
 loop-holds c = (omega arith, sym (mul-zero (c .before .before .before .before .args .c)), refl, refl, refl, lanes-none (c .before .before .before .before .args .c) (c .before .before .before .before .args .kc) (now (c .before .before .before .before .args .k)) (blockAt (c .before .before .before .before .args .c) (now (c .before .before .before .before .args .h)) 0) (now (c .before .before .before .before .args .a)) (now (c .before .before .before .before .args .s)))
 
--- src/lib.rt:94:39
 turn-of-requires : tie.Need-turn-of-requires Inv-loop μ-loop
 turn-of-requires c κs = (width-le (c .before .before .before .before .before .before .before .before .args .c) (c .before .before .before .before .before .before .before .before .pre .0 .width), omega arith)
 
--- src/lib.rt:94:9
 lane-requires : tie.Need-lane-requires Inv-loop μ-loop
 lane-requires c κs = (key-width (c .before .before .before .before .before .before .before .before .before .args .c) (c .before .before .before .before .before .before .before .before .before .args .kc) (c .before .before .before .before .before .before .before .before .before .pre .0), c .before .before .before .before .before .before .before .before .before .pre .1, width-le (c .before .before .before .before .before .before .before .before .before .args .c) (c .before .before .before .before .before .before .before .before .before .pre .0 .width), c .turn-of .ensures .1, c .before .before .before .before .before .before .before .before .before .pre .3, omega (arith, lane-room (c .before .before .before .before .before .before .before .before .before .args .c) (c .before .before .before .before .loop .i) (c .before .before .before .before .before .before .before .before .before .args .n) (c .before .before .before .before .loop .w) (length (now (c .before .before .before .before .before .before .before .before .before .args .a))) (c .before .before .before .before .loop .inv .1) (c .before .before .before .loop-test .taken) (c .before .before .before .before .before .before .before .before .before .pre .4), c .before .before .before .before .loop .inv .4), omega (arith, room (c .before .before .before .before .before .before .before .before .before .args .c) (c .before .before .before .before .loop .i) (c .before .before .before .before .before .before .before .before .before .args .n) (length (now (c .before .before .before .before .before .before .before .before .before .args .s))) (c .before .before .before .loop-test .taken) (c .before .before .before .before .before .before .before .before .before .pre .5), c .before .before .before .before .loop .inv .1, c .before .before .before .before .loop .inv .3))
 
--- src/lib.rt:95:9
 added-requires : tie.Need-added-requires Inv-loop μ-loop
 added-requires c κs = search needs
 
--- src/lib.rt:96:9
 add-w : tie.Need-add-w Inv-loop μ-loop
 add-w c = omega (arith, lane-room (c .before .before .before .before .before .before .before .before .before .before .before .before .before .before .before .args .c) (c .before .before .before .before .before .before .before .before .before .before .loop .i) (c .before .before .before .before .before .before .before .before .before .before .before .before .before .before .before .args .n) (c .before .before .before .before .before .before .before .before .before .before .loop .w) (length (now (c .before .before .before .before .before .before .before .before .before .before .before .before .before .before .before .args .a))) (c .before .before .before .before .before .before .before .before .before .before .loop .inv .1) (c .before .before .before .before .before .before .before .before .before .loop-test .taken) (c .before .before .before .before .before .before .before .before .before .before .before .before .before .before .before .pre .4), c .before .before .before .before .before .before .before .before .before .before .before .before .before .before .before .good)
 
--- src/lib.rt:97:9
 add-i : tie.Need-add-i Inv-loop μ-loop
 add-i c = search needs
 
--- src/lib.rt:93:5
 loop-less : tie.Need-loop-less Inv-loop μ-loop
 loop-less c = search needs
 
--- src/lib.rt:93:5
 loop-again : tie.Need-loop-again Inv-loop μ-loop
 loop-again c = (omega arith, next-block (c .before .before .before .before .before .before .before .before .before .before .before .before .before .before .before .args .c) (c .before .before .before .before .before .before .before .before .before .before .loop .i) (c .before .before .before .before .before .before .before .before .before .before .loop .w) (c .before .before .before .before .before .before .before .before .before .before .loop .inv .1), c .added .ensures ∙ doubled (c .before .before .before .before .before .before .before .before .before .before .loop .g) (c .before .before .before .before .before .before .before .before .before .before .loop .i) (c .before .before .before .before .before .before .before .before .before .before .loop .inv .2), lane-long (c .before .before .before .before .before .before .before .before .before .before .before .before .before .before .before .args .c) (c .before .before .before .before .before .before .before .before .before .before .before .before .before .before .before .args .kc) (now (c .before .before .before .before .before .before .before .before .before .before .before .before .before .before .before .args .k)) (now (c .before .before .before .before .before .before .before .before .before .before .before .before .before .before .before .args .h)) (c .before .before .before .before .before .before .before .before .before .before .loop .w) (c .before .before .before .before .before .before .turn-of .result) (c .before .before .before .before .before .before .before .before .before .before .loop .g) (c .before .before .before .before .before .before .before .before .before .before .loop .a) (c .before .before .before .before .before .lane .last .1 .0) (c .before .before .before .before .before .before .before .before .before .before .loop .s) (c .before .before .before .before .before .lane .last .0) (c .before .before .before .before .before .lane .ensures) ∙ c .before .before .before .before .before .before .before .before .before .before .loop .inv .3, c .before .before .before .before .before .lane .ensures .addends .long ∙ c .before .before .before .before .before .before .before .before .before .before .loop .inv .4, lanes-more (c .before .before .before .before .before .before .before .before .before .before .before .before .before .before .before .args .c) (c .before .before .before .before .before .before .before .before .before .before .before .before .before .before .before .args .kc) (c .before .before .before .before .before .before .before .before .before .before .loop .i) (now (c .before .before .before .before .before .before .before .before .before .before .before .before .before .before .before .args .k)) (now (c .before .before .before .before .before .before .before .before .before .before .before .before .before .before .before .args .h)) (c .before .before .before .before .before .before .before .before .before .before .loop .a) (c .before .before .before .before .before .lane .last .1 .0) (c .before .before .before .before .before .before .before .before .before .before .loop .s) (c .before .before .before .before .before .lane .last .0) (c .before .before .before .before .before .before .before .before .before .before .loop .w) (c .before .before .before .before .before .before .turn-of .result) (c .before .before .before .before .before .before .before .before .before .before .loop .g) (c .before .before .before .before .before .before .before .before .before .before .loop .inv .5) (c .before .before .before .before .before .before .before .before .before .before .loop .inv .1) (c .before .before .before .before .before .before .turn-of .ensures .0) (c .before .before .before .before .before .before .before .before .before .before .loop .inv .2) (c .before .before .before .before .before .before .before .before .before .before .before .before .before .before .before .pre .0 .halves) (width-pos (c .before .before .before .before .before .before .before .before .before .before .before .before .before .before .before .args .c) (c .before .before .before .before .before .before .before .before .before .before .before .before .before .before .before .pre .0 .width)) (omega (arith, room (c .before .before .before .before .before .before .before .before .before .before .before .before .before .before .before .args .c) (c .before .before .before .before .before .before .before .before .before .before .loop .i) (c .before .before .before .before .before .before .before .before .before .before .before .before .before .before .before .args .n) (length (now (c .before .before .before .before .before .before .before .before .before .before .before .before .before .before .before .args .s))) (c .before .before .before .before .before .before .before .before .before .loop-test .taken) (c .before .before .before .before .before .before .before .before .before .before .before .before .before .before .before .pre .5), c .before .before .before .before .before .before .before .before .before .before .loop .inv .1, c .before .before .before .before .before .before .before .before .before .before .loop .inv .3)) (c .before .before .before .before .before .lane .ensures .addends) (c .before .before .before .before .before .lane .ensures .inputs))
 
--- src/lib.rt:86:1
 same-length : tie.Need-same-length Inv-loop μ-loop
 same-length c = c .before .loop .inv .3
 
--- src/lib.rt:86:1
 same-length-2 : tie.Need-same-length-2 Inv-loop μ-loop
 same-length-2 c = c .before .loop .inv .4
 
--- src/lib.rt:86:1
 returns : tie.Need-returns Inv-loop μ-loop
 returns c = subst (λ m. Lanes (c .before .before .before .before .before .before .args .c) (c .before .before .before .before .before .before .args .kc) m (now (c .before .before .before .before .before .before .args .k)) (blockAt (c .before .before .before .before .before .before .args .c) (now (c .before .before .before .before .before .before .args .h)) 0) (c .before .loop .a) (c .before .loop .s)) (omega arith) (c .before .loop .inv .5)
 

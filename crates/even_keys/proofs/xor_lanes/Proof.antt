@@ -23,52 +23,40 @@ Inv-loop s₀ a c n m j₀ s j = (j ≤ m) × (s ≡ putWords s₀ 0 j (λ j. xo
 abbrev μ-loop : tie.MeasureT-loop
 μ-loop s₀ a c n m j₀ s j = m - j
 
--- src/lib.rt:77:13
 mul-m : tie.Need-mul-m Inv-loop μ-loop
 mul-m c = omega (arith, c .before .before .good)
 
--- src/lib.rt:79:5
 loop-holds : tie.Need-loop-holds Inv-loop μ-loop
 unfolding putWords
 loop-holds c = (omega arith, refl)
 
--- src/lib.rt:80:13
 word-at-requires : tie.Need-word-at-requires Inv-loop μ-loop
 word-at-requires c κs = omega (arith, ap length (c .before .before .loop .inv .1), length-puts (now (c .before .before .before .before .before .args .s)) 0 (c .before .before .loop .j) (λ j. xor (wordAt (now (c .before .before .before .before .before .args .s)) j) (getD (now (c .before .before .before .before .before .args .a)) j 0)))
 
--- src/lib.rt:81:45
 mul-x64 : tie.Need-mul-x64 Inv-loop μ-loop
 mul-x64 c = omega (arith, c .before .before .before .before .before .before .before .good)
 
--- src/lib.rt:81:45
 shared-slice-read-x64 : tie.Need-shared-slice-read-x64 Inv-loop μ-loop
 shared-slice-read-x64 c = search needs
 
--- src/lib.rt:81:31
 x64-requires : tie.Need-x64-requires Inv-loop μ-loop
 x64-requires c κs = search needs
 
--- src/lib.rt:81:9
 put-word-requires : tie.Need-put-word-requires Inv-loop μ-loop
 put-word-requires c κs = omega (arith, ap length (c .before .before .before .before .before .before .loop .inv .1), length-puts (now (c .before .before .before .before .before .before .before .before .before .args .s)) 0 (c .before .before .before .before .before .before .loop .j) (λ j. xor (wordAt (now (c .before .before .before .before .before .before .before .before .before .args .s)) j) (getD (now (c .before .before .before .before .before .before .before .before .before .args .a)) j 0)))
 
--- src/lib.rt:82:9
 add-j : tie.Need-add-j Inv-loop μ-loop
 add-j c = search needs
 
--- src/lib.rt:79:5
 loop-less : tie.Need-loop-less Inv-loop μ-loop
 loop-less c = search needs
 
--- src/lib.rt:79:5
 loop-again : tie.Need-loop-again Inv-loop μ-loop
 loop-again c = (omega arith, xor-more (now (c .before .before .before .before .before .before .before .before .before .before .before .before .args .s)) (c .before .before .before .before .before .before .before .before .before .loop .s) (c .before .before .put-word .last .0) (now (c .before .before .before .before .before .before .before .before .before .before .before .before .args .a)) (c .before .before .before .before .before .before .before .before .before .loop .j) (c .before .before .before .before .before .before .word-at .result) (c .before .before .before .x64 .result) (c .before .before .before .before .before .before .before .before .before .loop .inv .1) (c .before .before .put-word .ensures) (c .before .before .before .before .before .before .word-at .ensures) (c .before .before .before .x64 .ensures))
 
--- src/lib.rt:73:1
 same-length : tie.Need-same-length Inv-loop μ-loop
 same-length c = ap length (c .before .loop .inv .1) ∙ length-puts (now (c .before .before .before .before .args .s)) 0 (c .before .loop .j) (λ j. xor (wordAt (now (c .before .before .before .before .args .s)) j) (getD (now (c .before .before .before .before .args .a)) j 0))
 
--- src/lib.rt:73:1
 returns : tie.Need-returns Inv-loop μ-loop
 returns c = xored (c .before .before .before .before .args .c) (c .before .before .before .before .args .n) (c .before .loop .j) (now (c .before .before .before .before .args .a)) (now (c .before .before .before .before .args .s)) (c .before .loop .s) (omega arith) (omega arith) (λ j. word-lt (now (c .before .before .before .before .args .s)) j (λ i. omega (arith, c .before .before .before .slice-known .given i))) (λ j. omega (arith, c .before .before .shared-slice-known .given j)) (c .before .loop .inv .1)
 

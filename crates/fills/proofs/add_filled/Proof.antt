@@ -15,27 +15,21 @@ use Rattle.fills.proofs.add_filled.Lts as lts
 use Rattle.fills.proofs.last_block.Reads as last-block-reads
 use Rattle.one_block.proofs.add_in.Reads as add-in-reads
 
--- src/lib.rt:34:26
 slice-aggregate-last-block : tie.Need-slice-aggregate-last-block
 slice-aggregate-last-block c = search needs
 
--- src/lib.rt:34:5
 last-block-requires : tie.Need-last-block-requires
 last-block-requires c κs = (refl, last-le (8 * c .before .before .before .args .c) (length (now (c .before .before .before .args .text))) _ (c .before .before .before .pre .2), last-lt (8 * c .before .before .before .args .c) (length (now (c .before .before .before .args .text))) _ (c .before .before .before .pre .2) (width-lt (c .before .before .before .args .c) (c .before .before .before .pre .0)) (omega (arith, width-le (c .before .before .before .args .c) (c .before .before .before .pre .0))))
 
--- src/lib.rt:35:29
 slice-aggregate-add-in : tie.Need-slice-aggregate-add-in
 slice-aggregate-add-in c = search needs
 
--- src/lib.rt:35:5
 add-in-requires : tie.Need-add-in-requires
 add-in-requires c κs = (c .before .before .before .before .before .before .before .pre .1, omega (arith, width-le (c .before .before .before .before .before .before .before .args .c) (c .before .before .before .before .before .before .before .pre .0), c .before .before .before .last-block .kept .1 .1 .0))
 
--- src/lib.rt:29:1
 same-length : tie.Need-same-length
 same-length c = search needs
 
--- src/lib.rt:29:1
 returns : tie.Need-returns
 returns c = c .before .before .add-in .ensures ∙ ap (xorBlock (8 * c .before .before .before .before .before .before .before .before .before .before .args .c) (held (c .before .before .before .before .before .before .before .before .before .before .args .c) (now (c .before .before .before .before .before .before .before .before .before .before .args .s)))) (ap (λ x. take (8 * c .before .before .before .before .before .before .before .before .before .before .args .c) (drop 0 x)) (c .before .before .before .before .before .before .last-block .ensures) ∙ filled-block (8 * c .before .before .before .before .before .before .before .before .before .before .args .c) (now (c .before .before .before .before .before .before .before .before .before .before .args .text)) (width-lt (c .before .before .before .before .before .before .before .before .before .before .args .c) (c .before .before .before .before .before .before .before .before .before .before .pre .0)) (c .before .before .before .before .before .before .before .before .before .before .args .at) (c .before .before .before .before .before .before .before .before .before .before .pre .2) (omega (arith, width-le (c .before .before .before .before .before .before .before .before .before .before .args .c) (c .before .before .before .before .before .before .before .before .before .before .pre .0))))
 

@@ -20,75 +20,57 @@ use Rattle.one_block.proofs.give_out.Reads as give-out-reads
 use Rattle.one_block.proofs.seal_first.Reads as seal-first-reads
 use Rattle.one_block.proofs.take_in.Reads as take-in-reads
 
--- src/lib.rt:43:27
 mul-q : tie.Need-mul-q
 mul-q c = search needs
 
--- src/lib.rt:43:13
 div-q : tie.Need-div-q
 div-q c = omega (arith, width-lt (c .before .before .before .before .args .c) (c .before .before .before .before .pre .1))
 
--- src/lib.rt:45:24
 slice-aggregate-take-in : tie.Need-slice-aggregate-take-in
 slice-aggregate-take-in c = search needs
 
--- src/lib.rt:45:5
 take-in-requires : tie.Need-take-in-requires
 take-in-requires c κs = (omega (arith, width-le (c .before .before .before .before .before .args .c) (c .before .before .before .before .before .pre .1)), omega (arith, c .before .before .before .before .before .pre .5))
 
--- src/lib.rt:46:38
 slice-aggregate-chain-out : tie.Need-slice-aggregate-chain-out
 slice-aggregate-chain-out c = search needs
 
--- src/lib.rt:46:5
 chain-out-requires : tie.Need-chain-out-requires
 chain-out-requires c κs = (c .before .before .before .before .before .before .before .before .before .pre .0, c .before .before .before .before .before .before .before .before .before .pre .1, c .before .before .before .before .before .before .before .before .before .pre .2, c .before .before .before .before .before .before .before .before .before .pre .3, c .before .before .before .before .before .before .before .before .before .pre .4, omega (arith, width-le (c .before .before .before .before .before .before .before .before .before .args .c) (c .before .before .before .before .before .before .before .before .before .pre .1), c .before .before .before .take-in .kept .0), some-blocks (8 * c .before .before .before .before .before .before .before .before .before .args .c) (length (now (c .before .before .before .before .before .before .before .before .before .args .text))), omega (arith, filled-room (8 * c .before .before .before .before .before .before .before .before .before .args .c) (length (now (c .before .before .before .before .before .before .before .before .before .args .text)) / (8 * c .before .before .before .before .before .before .before .before .before .args .c)) (length (now (c .before .before .before .before .before .before .before .before .before .args .out))) (c .before .before .before .before .before .before .before .before .before .pre .6)))
 
--- src/lib.rt:47:16
 slice-aggregate-add-filled : tie.Need-slice-aggregate-add-filled
 slice-aggregate-add-filled c = search needs
 
--- src/lib.rt:47:38
 mul-add-filled : tie.Need-mul-add-filled
 mul-add-filled c = search needs
 
--- src/lib.rt:47:33
 mul-add-filled-2 : tie.Need-mul-add-filled-2
 mul-add-filled-2 c = omega (arith, c .before .before .before .before .before .before .before .before .before .before .before .before .before .before .good, some-blocks (8 * c .before .before .before .before .before .before .before .before .before .before .before .before .before .before .args .c) (length (now (c .before .before .before .before .before .before .before .before .before .before .before .before .before .before .args .text))))
 
--- src/lib.rt:47:5
 add-filled-requires : tie.Need-add-filled-requires
 add-filled-requires c κs = (c .before .before .before .before .before .before .before .before .before .before .before .before .before .before .pre .1, omega (arith, width-le (c .before .before .before .before .before .before .before .before .before .before .before .before .before .before .args .c) (c .before .before .before .before .before .before .before .before .before .before .before .before .before .before .pre .1), c .before .before .before .before .before .before .before .before .take-in .kept .0, c .before .before .before .before .chain-out .kept .1 .1 .1 .1 .0), refl)
 
--- src/lib.rt:48:32
 slice-aggregate-seal-first : tie.Need-slice-aggregate-seal-first
 slice-aggregate-seal-first c = search needs
 
--- src/lib.rt:48:5
 seal-first-requires : tie.Need-seal-first-requires
 seal-first-requires c κs = (c .before .before .before .before .before .before .before .before .before .before .before .before .before .before .before .before .before .pre .0, c .before .before .before .before .before .before .before .before .before .before .before .before .before .before .before .before .before .pre .1, c .before .before .before .before .before .before .before .before .before .before .before .before .before .before .before .before .before .pre .2, omega (arith, width-le (c .before .before .before .before .before .before .before .before .before .before .before .before .before .before .before .before .before .args .c) (c .before .before .before .before .before .before .before .before .before .before .before .before .before .before .before .before .before .pre .1), c .before .before .before .before .before .before .before .before .before .before .before .take-in .kept .0, c .before .before .before .before .before .before .before .chain-out .kept .1 .1 .1 .1 .0, c .before .before .add-filled .kept .0), c .before .before .before .before .before .before .before .before .before .before .before .before .before .before .before .before .before .pre .4, c .before .before .before .before .before .before .before .before .before .before .before .before .before .before .before .before .before .pre .3)
 
--- src/lib.rt:49:25
 slice-aggregate-give-out : tie.Need-slice-aggregate-give-out
 slice-aggregate-give-out c = search needs
 
--- src/lib.rt:49:42
 mul-give-out : tie.Need-mul-give-out
 mul-give-out c = search needs
 
--- src/lib.rt:49:37
 mul-give-out-2 : tie.Need-mul-give-out-2
 mul-give-out-2 c = omega (arith, c .before .before .before .before .before .before .before .before .before .before .before .before .before .before .before .before .before .before .before .before .before .good, some-blocks (8 * c .before .before .before .before .before .before .before .before .before .before .before .before .before .before .before .before .before .before .before .before .before .args .c) (length (now (c .before .before .before .before .before .before .before .before .before .before .before .before .before .before .before .before .before .before .before .before .before .args .text))))
 
--- src/lib.rt:49:5
 give-out-requires : tie.Need-give-out-requires
 give-out-requires c κs = (omega (arith, width-le (c .before .before .before .before .before .before .before .before .before .before .before .before .before .before .before .before .before .before .before .before .before .args .c) (c .before .before .before .before .before .before .before .before .before .before .before .before .before .before .before .before .before .before .before .before .before .pre .1), c .before .before .before .before .before .before .before .before .before .before .before .before .before .before .before .take-in .kept .0, c .before .before .before .before .before .before .before .before .before .before .before .chain-out .kept .1 .1 .1 .1 .0, c .before .before .before .before .before .before .add-filled .kept .0, c .before .before .before .seal-first .kept .1 .0), omega (arith, c .before .before .before .before .before .before .before .before .before .before .before .chain-out .kept .1 .1 .1 .1 .1 .1 .1 .0, filled-room (8 * c .before .before .before .before .before .before .before .before .before .before .before .before .before .before .before .before .before .before .before .before .before .args .c) (length (now (c .before .before .before .before .before .before .before .before .before .before .before .before .before .before .before .before .before .before .before .before .before .args .text)) / (8 * c .before .before .before .before .before .before .before .before .before .before .before .before .before .before .before .before .before .before .before .before .before .args .c)) (length (now (c .before .before .before .before .before .before .before .before .before .before .before .before .before .before .before .before .before .before .before .before .before .args .out))) (c .before .before .before .before .before .before .before .before .before .before .before .before .before .before .before .before .before .before .before .before .before .pre .6)))
 
--- src/lib.rt:39:1
 same-length : tie.Need-same-length
 same-length c = search needs
 
--- src/lib.rt:39:1
 returns : tie.Need-returns
 returns c = cbp-is (8 * c .before .before .before .before .before .before .before .before .before .before .before .before .before .before .before .before .before .before .before .before .before .before .before .before .args .c) (now (c .before .before .before .before .before .before .before .before .before .before .before .before .before .before .before .before .before .before .before .before .before .before .before .before .args .text)) (width-lt (c .before .before .before .before .before .before .before .before .before .before .before .before .before .before .before .before .before .before .before .before .before .before .before .before .args .c) (c .before .before .before .before .before .before .before .before .before .before .before .before .before .before .before .before .before .before .before .before .before .before .before .before .pre .1)) (sealBytes (c .before .before .before .before .before .before .before .before .before .before .before .before .before .before .before .before .before .before .before .before .before .before .before .before .args .c) (c .before .before .before .before .before .before .before .before .before .before .before .before .before .before .before .before .before .before .before .before .before .before .before .before .args .t) (keysOf (c .before .before .before .before .before .before .before .before .before .before .before .before .before .before .before .before .before .before .before .before .before .before .before .before .args .c) (now (c .before .before .before .before .before .before .before .before .before .before .before .before .before .before .before .before .before .before .before .before .before .before .before .before .args .ks)))) (now (c .before .before .before .before .before .before .before .before .before .before .before .before .before .before .before .before .before .before .before .before .before .before .before .before .args .iv)) (now (c .before .before .before .before .before .before .before .before .before .before .before .before .before .before .before .before .before .before .before .before .before .before .before .before .args .out)) _ _ _ _ _ (c .before .before .before .before .before .before .before .before .before .before .before .before .before .before .before .before .before .before .take-in .ensures ∙ take-drop-all (8 * c .before .before .before .before .before .before .before .before .before .before .before .before .before .before .before .before .before .before .before .before .before .before .before .before .args .c) (now (c .before .before .before .before .before .before .before .before .before .before .before .before .before .before .before .before .before .before .before .before .before .before .before .before .args .iv)) (c .before .before .before .before .before .before .before .before .before .before .before .before .before .before .before .before .before .before .before .before .before .before .before .before .pre .5)) (c .before .before .before .before .before .before .before .before .before .before .before .before .before .before .chain-out .ensures .0) (c .before .before .before .before .before .before .before .before .before .before .before .before .before .before .chain-out .ensures .1) (c .before .before .before .before .before .before .seal-first .ensures ∙ ap (sealBytes (c .before .before .before .before .before .before .before .before .before .before .before .before .before .before .before .before .before .before .before .before .before .before .before .before .args .c) (c .before .before .before .before .before .before .before .before .before .before .before .before .before .before .before .before .before .before .before .before .before .before .before .before .args .t) (keysOf (c .before .before .before .before .before .before .before .before .before .before .before .before .before .before .before .before .before .before .before .before .before .before .before .before .args .c) (now (c .before .before .before .before .before .before .before .before .before .before .before .before .before .before .before .before .before .before .before .before .before .before .before .before .args .ks)))) (c .before .before .before .before .before .before .before .before .before .add-filled .ensures)) (length-held (c .before .before .before .before .before .before .before .before .before .before .before .before .before .before .before .before .before .before .before .before .before .before .before .before .args .c) _) (c .before .before .give-out .ensures)
 

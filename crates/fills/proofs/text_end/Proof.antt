@@ -17,51 +17,39 @@ Inv-loop p n b k₀ k = (k ≤ b) × (unfill b (take n p) ≡ unfillFrom (n - b)
 abbrev μ-loop : tie.MeasureT-loop
 μ-loop p n b k₀ k = k
 
--- src/lib.rt:58:5
 loop-holds : tie.Need-loop-holds Inv-loop μ-loop
 loop-holds c = (omega arith, from-end (c .args .n) (c .args .b) (now (c .args .p)) (c .pre .0) (c .pre .1))
 
--- src/lib.rt:59:9
 sub-k : tie.Need-sub-k Inv-loop μ-loop
 sub-k c = search needs
 
--- src/lib.rt:60:19
 sub-x : tie.Need-sub-x Inv-loop μ-loop
 sub-x c = search needs
 
--- src/lib.rt:60:19
 add-x : tie.Need-add-x Inv-loop μ-loop
 add-x c = search needs
 
--- src/lib.rt:60:17
 shared-slice-read-x : tie.Need-shared-slice-read-x Inv-loop μ-loop
 shared-slice-read-x c = search needs
 
--- src/lib.rt:62:20
 sub-result : tie.Need-sub-result Inv-loop μ-loop
 sub-result c = search needs
 
--- src/lib.rt:62:20
 add-result : tie.Need-add-result Inv-loop μ-loop
 add-result c = search needs
 
--- src/lib.rt:62:13
 returns : tie.Need-returns Inv-loop μ-loop
 returns c = (c .before .before .before .loop .inv .1 ∙ found (c .before .before .before .before .args .n) (c .before .before .before .before .args .b) (now (c .before .before .before .before .args .p)) (c .before .before .before .before .pre .0) (c .before .before .before .before .pre .1) (c .before .before .before .loop .k) (c .before .before .before .loop .k - 1) (getD (now (c .before .before .before .before .args .p)) ((c .before .before .before .before .args .n) - (c .before .before .before .before .args .b) + (c .before .before .before .loop .k - 1)) 0) (omega arith) (c .before .before .before .loop .inv .0) refl (omega arith), omega (arith, c .before .before .before .loop .inv .0, c .before .before .before .before .pre .0))
 
--- src/lib.rt:65:13
 returns-2 : tie.Need-returns-2 Inv-loop μ-loop
 returns-2 c = (c .before .before .before .before .loop .inv .1 ∙ stopped (c .before .before .before .before .before .args .n) (c .before .before .before .before .before .args .b) (now (c .before .before .before .before .before .args .p)) (c .before .before .before .before .before .pre .0) (c .before .before .before .before .before .pre .1) (c .before .before .before .before .loop .k) (c .before .before .before .before .loop .k - 1) (getD (now (c .before .before .before .before .before .args .p)) ((c .before .before .before .before .before .args .n) - (c .before .before .before .before .before .args .b) + (c .before .before .before .before .loop .k - 1)) 0) (omega arith) (c .before .before .before .before .loop .inv .0) refl (λ q. omega arith) (λ q. omega arith), omega arith)
 
--- src/lib.rt:58:5
 loop-less : tie.Need-loop-less Inv-loop μ-loop
 loop-less c = search needs
 
--- src/lib.rt:58:5
 loop-again : tie.Need-loop-again Inv-loop μ-loop
 loop-again c = (omega (arith, c .before .before .before .before .loop .inv .0), c .before .before .before .before .loop .inv .1 ∙ passed (c .before .before .before .before .before .args .n) (c .before .before .before .before .before .args .b) (now (c .before .before .before .before .before .args .p)) (c .before .before .before .before .before .pre .0) (c .before .before .before .before .before .pre .1) (c .before .before .before .before .loop .k) (c .before .before .before .before .loop .k - 1) (getD (now (c .before .before .before .before .before .args .p)) ((c .before .before .before .before .before .args .n) - (c .before .before .before .before .before .args .b) + (c .before .before .before .before .loop .k - 1)) 0) (omega arith) (c .before .before .before .before .loop .inv .0) refl (omega arith))
 
--- src/lib.rt:53:1
 returns-3 : tie.Need-returns-3 Inv-loop μ-loop
 returns-3 c = (c .before .loop .inv .1 ∙ found-none (c .before .before .args .n) (c .before .before .args .b) (now (c .before .before .args .p)) (c .before .before .pre .0) (c .before .before .pre .1) (c .before .loop .k) (omega arith), omega arith)
 

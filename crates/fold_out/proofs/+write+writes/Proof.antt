@@ -44,7 +44,6 @@ writes-at t = and 7 writes-kinds.ps (is 7 writes-kinds.ps μ-writes t) writes.Pr
 abbrev writes-below : ℕ → In 7 writes-kinds.ps
 writes-below t = and 7 writes-kinds.ps (falls 7 writes-kinds.ps _<_ μ-writes t) writes.Pre
 
--- src/lib.rt:25:11
 write-way-of-requires : (t : ℕ) → write-lts.Need-way-of-requires (
   way-of-reads.Asked,
   way-of-reads.Learnt,
@@ -61,7 +60,6 @@ write-way-of-requires : (t : ℕ) → write-lts.Need-way-of-requires (
 ) (write-at t) write.Post
 write-way-of-requires t c κs = (c .before .before .before .before .before .pre .1 .0)
 
--- src/lib.rt:26:23
 write-enum-known-n : (t : ℕ) → write-lts.Need-enum-known-n (
   way-of-reads.Asked,
   way-of-reads.Learnt,
@@ -78,7 +76,6 @@ write-enum-known-n : (t : ℕ) → write-lts.Need-enum-known-n (
 ) (write-at t) write.Post
 write-enum-known-n t c = search needs
 
--- src/lib.rt:27:21
 write-slice-reshare-prefix-v : (t : ℕ) → write-lts.Need-slice-reshare-prefix-v (
   way-of-reads.Asked,
   way-of-reads.Learnt,
@@ -95,7 +92,6 @@ write-slice-reshare-prefix-v : (t : ℕ) → write-lts.Need-slice-reshare-prefix
 ) (write-at t) write.Post
 write-slice-reshare-prefix-v t c = let w = (constant-way (c .before .before .before .before .before .before .before .before .before .before .before .args .s .now) (c .before .before .before .before .before .before .before .before .before .before .before .args .list .now) (c .before .before .before .before .before .before .before .before .before .before .before .args .tab .now) (c .before .before .before .before .before .before .before .before .before .before .before .args .back .now) (c .before .before .before .before .before .before .before .before .before .before .before .args .p .now) (c .before .before .before .before .before .before .before .before .before .before .before .args .u .now) (length (c .before .before .before .before .before .before .before .before .before .before .before .args .work .now)) (c .before .before .before .before .before .before .before .before .before .before .before .pre .1 .0) (c .before .before .before .before .before .way-of .result) (c .before .before .before .before .before .way-of .last .1 .1 .1 .1 .1 .1 .0) (c .before .before .before .before .before .way-of .ensures) (c .before .n .given .0 .0) (c .before .n .given .1)) in let x = ap length (w .stands) in let y = w .size in let z = length-take (c .before .n .given .0 .0) (c .before .before .before .before .before .way-of .last .1 .1 .1 .1 .1 .1 .0) in omega arith
 
--- src/lib.rt:27:17
 write-slice-aggregate-v : (t : ℕ) → write-lts.Need-slice-aggregate-v (
   way-of-reads.Asked,
   way-of-reads.Learnt,
@@ -112,7 +108,6 @@ write-slice-aggregate-v : (t : ℕ) → write-lts.Need-slice-aggregate-v (
 ) (write-at t) write.Post
 write-slice-aggregate-v t c = let w = (constant-way (c .before .before .before .before .before .before .before .before .before .before .before .before .args .s .now) (c .before .before .before .before .before .before .before .before .before .before .before .before .args .list .now) (c .before .before .before .before .before .before .before .before .before .before .before .before .args .tab .now) (c .before .before .before .before .before .before .before .before .before .before .before .before .args .back .now) (c .before .before .before .before .before .before .before .before .before .before .before .before .args .p .now) (c .before .before .before .before .before .before .before .before .before .before .before .before .args .u .now) (length (c .before .before .before .before .before .before .before .before .before .before .before .before .args .work .now)) (c .before .before .before .before .before .before .before .before .before .before .before .before .pre .1 .0) (c .before .before .before .before .before .before .way-of .result) (c .before .before .before .before .before .before .way-of .last .1 .1 .1 .1 .1 .1 .0) (c .before .before .before .before .before .before .way-of .ensures) (c .before .before .n .given .0 .0) (c .before .before .n .given .1)) in let x = ap length (w .stands) in let y = w .size in let z = length-take (c .before .before .n .given .0 .0) (c .before .before .before .before .before .before .way-of .last .1 .1 .1 .1 .1 .1 .0) in omega arith
 
--- src/lib.rt:28:13
 write-put-record-requires : (t : ℕ) → write-lts.Need-put-record-requires (
   way-of-reads.Asked,
   way-of-reads.Learnt,
@@ -129,7 +124,6 @@ write-put-record-requires : (t : ℕ) → write-lts.Need-put-record-requires (
 ) (write-at t) write.Post
 write-put-record-requires t c κs = let w = (constant-way (c .before .before .before .before .before .before .before .before .before .before .before .before .before .args .s .now) (c .before .before .before .before .before .before .before .before .before .before .before .before .before .args .list .now) (c .before .before .before .before .before .before .before .before .before .before .before .before .before .args .tab .now) (c .before .before .before .before .before .before .before .before .before .before .before .before .before .args .back .now) (c .before .before .before .before .before .before .before .before .before .before .before .before .before .args .p .now) (c .before .before .before .before .before .before .before .before .before .before .before .before .before .args .u .now) (length (c .before .before .before .before .before .before .before .before .before .before .before .before .before .args .work .now)) (c .before .before .before .before .before .before .before .before .before .before .before .before .before .pre .1 .0) (c .before .before .before .before .before .before .before .way-of .result) (c .before .before .before .before .before .before .before .way-of .last .1 .1 .1 .1 .1 .1 .0) (c .before .before .before .before .before .before .before .way-of .ensures) (c .before .before .before .n .given .0 .0) (c .before .before .before .n .given .1)) in let x = ap length (w .stands) in let y = record-room (c .before .before .before .before .before .before .before .before .before .before .before .before .before .args .o) 1 (w .held) (c .before .before .before .before .before .before .before .before .before .before .before .before .before .args .out .now) (same-fitting (c .before .before .before .before .before .before .before .before .before .before .before .before .before .args .o) (foldedAt (c .before .before .before .before .before .before .before .before .before .before .before .before .before .args .list .now) (c .before .before .before .before .before .before .before .before .before .before .before .before .before .args .s .now)) (recordOf 1 ((constant-way (c .before .before .before .before .before .before .before .before .before .before .before .before .before .args .s .now) (c .before .before .before .before .before .before .before .before .before .before .before .before .before .args .list .now) (c .before .before .before .before .before .before .before .before .before .before .before .before .before .args .tab .now) (c .before .before .before .before .before .before .before .before .before .before .before .before .before .args .back .now) (c .before .before .before .before .before .before .before .before .before .before .before .before .before .args .p .now) (c .before .before .before .before .before .before .before .before .before .before .before .before .before .args .u .now) (length (c .before .before .before .before .before .before .before .before .before .before .before .before .before .args .work .now)) (c .before .before .before .before .before .before .before .before .before .before .before .before .before .pre .1 .0) (c .before .before .before .before .before .before .before .way-of .result) (c .before .before .before .before .before .before .before .way-of .last .1 .1 .1 .1 .1 .1 .0) (c .before .before .before .before .before .before .before .way-of .ensures) (c .before .before .before .n .given .0 .0) (c .before .before .before .n .given .1)) .held)) (c .before .before .before .before .before .before .before .before .before .before .before .before .before .args .out .now) (constant-folded (c .before .before .before .before .before .before .before .before .before .before .before .before .before .args .s .now) (c .before .before .before .before .before .before .before .before .before .before .before .before .before .args .list .now) (c .before .before .before .before .before .before .before .before .before .before .before .before .before .args .tab .now) (c .before .before .before .before .before .before .before .before .before .before .before .before .before .args .back .now) (c .before .before .before .before .before .before .before .before .before .before .before .before .before .args .p .now) (c .before .before .before .before .before .before .before .before .before .before .before .before .before .args .u .now) (length (c .before .before .before .before .before .before .before .before .before .before .before .before .before .args .work .now)) (c .before .before .before .before .before .before .before .before .before .before .before .before .before .pre .1 .0) (c .before .before .before .n .given .0 .0) (c .before .before .before .before .before .before .before .way-of .last .1 .1 .1 .1 .1 .1 .0) (constant-way (c .before .before .before .before .before .before .before .before .before .before .before .before .before .args .s .now) (c .before .before .before .before .before .before .before .before .before .before .before .before .before .args .list .now) (c .before .before .before .before .before .before .before .before .before .before .before .before .before .args .tab .now) (c .before .before .before .before .before .before .before .before .before .before .before .before .before .args .back .now) (c .before .before .before .before .before .before .before .before .before .before .before .before .before .args .p .now) (c .before .before .before .before .before .before .before .before .before .before .before .before .before .args .u .now) (length (c .before .before .before .before .before .before .before .before .before .before .before .before .before .args .work .now)) (c .before .before .before .before .before .before .before .before .before .before .before .before .before .pre .1 .0) (c .before .before .before .before .before .before .before .way-of .result) (c .before .before .before .before .before .before .before .way-of .last .1 .1 .1 .1 .1 .1 .0) (c .before .before .before .before .before .before .before .way-of .ensures) (c .before .before .before .n .given .0 .0) (c .before .before .before .n .given .1))) (c .before .before .before .before .before .before .before .before .before .before .before .before .before .pre .1 .1)) in let z = record-few (c .before .before .before .before .before .before .before .before .before .before .before .before .before .args .o) 1 (w .held) (c .before .before .before .before .before .before .before .before .before .before .before .before .before .args .out .now) (same-fitting (c .before .before .before .before .before .before .before .before .before .before .before .before .before .args .o) (foldedAt (c .before .before .before .before .before .before .before .before .before .before .before .before .before .args .list .now) (c .before .before .before .before .before .before .before .before .before .before .before .before .before .args .s .now)) (recordOf 1 ((constant-way (c .before .before .before .before .before .before .before .before .before .before .before .before .before .args .s .now) (c .before .before .before .before .before .before .before .before .before .before .before .before .before .args .list .now) (c .before .before .before .before .before .before .before .before .before .before .before .before .before .args .tab .now) (c .before .before .before .before .before .before .before .before .before .before .before .before .before .args .back .now) (c .before .before .before .before .before .before .before .before .before .before .before .before .before .args .p .now) (c .before .before .before .before .before .before .before .before .before .before .before .before .before .args .u .now) (length (c .before .before .before .before .before .before .before .before .before .before .before .before .before .args .work .now)) (c .before .before .before .before .before .before .before .before .before .before .before .before .before .pre .1 .0) (c .before .before .before .before .before .before .before .way-of .result) (c .before .before .before .before .before .before .before .way-of .last .1 .1 .1 .1 .1 .1 .0) (c .before .before .before .before .before .before .before .way-of .ensures) (c .before .before .before .n .given .0 .0) (c .before .before .before .n .given .1)) .held)) (c .before .before .before .before .before .before .before .before .before .before .before .before .before .args .out .now) (constant-folded (c .before .before .before .before .before .before .before .before .before .before .before .before .before .args .s .now) (c .before .before .before .before .before .before .before .before .before .before .before .before .before .args .list .now) (c .before .before .before .before .before .before .before .before .before .before .before .before .before .args .tab .now) (c .before .before .before .before .before .before .before .before .before .before .before .before .before .args .back .now) (c .before .before .before .before .before .before .before .before .before .before .before .before .before .args .p .now) (c .before .before .before .before .before .before .before .before .before .before .before .before .before .args .u .now) (length (c .before .before .before .before .before .before .before .before .before .before .before .before .before .args .work .now)) (c .before .before .before .before .before .before .before .before .before .before .before .before .before .pre .1 .0) (c .before .before .before .n .given .0 .0) (c .before .before .before .before .before .before .before .way-of .last .1 .1 .1 .1 .1 .1 .0) (constant-way (c .before .before .before .before .before .before .before .before .before .before .before .before .before .args .s .now) (c .before .before .before .before .before .before .before .before .before .before .before .before .before .args .list .now) (c .before .before .before .before .before .before .before .before .before .before .before .before .before .args .tab .now) (c .before .before .before .before .before .before .before .before .before .before .before .before .before .args .back .now) (c .before .before .before .before .before .before .before .before .before .before .before .before .before .args .p .now) (c .before .before .before .before .before .before .before .before .before .before .before .before .before .args .u .now) (length (c .before .before .before .before .before .before .before .before .before .before .before .before .before .args .work .now)) (c .before .before .before .before .before .before .before .before .before .before .before .before .before .pre .1 .0) (c .before .before .before .before .before .before .before .way-of .result) (c .before .before .before .before .before .before .before .way-of .last .1 .1 .1 .1 .1 .1 .0) (c .before .before .before .before .before .before .before .way-of .ensures) (c .before .before .before .n .given .0 .0) (c .before .before .before .n .given .1))) (c .before .before .before .before .before .before .before .before .before .before .before .before .before .pre .1 .1)) in omega arith
 
--- src/lib.rt:29:13
 write-add-result : (t : ℕ) → write-lts.Need-add-result (
   way-of-reads.Asked,
   way-of-reads.Learnt,
@@ -146,7 +140,6 @@ write-add-result : (t : ℕ) → write-lts.Need-add-result (
 ) (write-at t) write.Post
 write-add-result t c = let y = record-room (c .before .before .before .before .before .before .before .before .before .before .before .before .before .before .before .before .args .o) 1 ((constant-way (c .before .before .before .before .before .before .before .before .before .before .before .before .before .before .before .before .args .s .now) (c .before .before .before .before .before .before .before .before .before .before .before .before .before .before .before .before .args .list .now) (c .before .before .before .before .before .before .before .before .before .before .before .before .before .before .before .before .args .tab .now) (c .before .before .before .before .before .before .before .before .before .before .before .before .before .before .before .before .args .back .now) (c .before .before .before .before .before .before .before .before .before .before .before .before .before .before .before .before .args .p .now) (c .before .before .before .before .before .before .before .before .before .before .before .before .before .before .before .before .args .u .now) (length (c .before .before .before .before .before .before .before .before .before .before .before .before .before .before .before .before .args .work .now)) (c .before .before .before .before .before .before .before .before .before .before .before .before .before .before .before .before .pre .1 .0) (c .before .before .before .before .before .before .before .before .before .before .way-of .result) (c .before .before .before .before .before .before .before .before .before .before .way-of .last .1 .1 .1 .1 .1 .1 .0) (c .before .before .before .before .before .before .before .before .before .before .way-of .ensures) (c .before .before .before .before .before .before .n .given .0 .0) (c .before .before .before .before .before .before .n .given .1)) .held) (c .before .before .before .before .before .before .before .before .before .before .before .before .before .before .before .before .args .out .now) (same-fitting (c .before .before .before .before .before .before .before .before .before .before .before .before .before .before .before .before .args .o) (foldedAt (c .before .before .before .before .before .before .before .before .before .before .before .before .before .before .before .before .args .list .now) (c .before .before .before .before .before .before .before .before .before .before .before .before .before .before .before .before .args .s .now)) (recordOf 1 ((constant-way (c .before .before .before .before .before .before .before .before .before .before .before .before .before .before .before .before .args .s .now) (c .before .before .before .before .before .before .before .before .before .before .before .before .before .before .before .before .args .list .now) (c .before .before .before .before .before .before .before .before .before .before .before .before .before .before .before .before .args .tab .now) (c .before .before .before .before .before .before .before .before .before .before .before .before .before .before .before .before .args .back .now) (c .before .before .before .before .before .before .before .before .before .before .before .before .before .before .before .before .args .p .now) (c .before .before .before .before .before .before .before .before .before .before .before .before .before .before .before .before .args .u .now) (length (c .before .before .before .before .before .before .before .before .before .before .before .before .before .before .before .before .args .work .now)) (c .before .before .before .before .before .before .before .before .before .before .before .before .before .before .before .before .pre .1 .0) (c .before .before .before .before .before .before .before .before .before .before .way-of .result) (c .before .before .before .before .before .before .before .before .before .before .way-of .last .1 .1 .1 .1 .1 .1 .0) (c .before .before .before .before .before .before .before .before .before .before .way-of .ensures) (c .before .before .before .before .before .before .n .given .0 .0) (c .before .before .before .before .before .before .n .given .1)) .held)) (c .before .before .before .before .before .before .before .before .before .before .before .before .before .before .before .before .args .out .now) (constant-folded (c .before .before .before .before .before .before .before .before .before .before .before .before .before .before .before .before .args .s .now) (c .before .before .before .before .before .before .before .before .before .before .before .before .before .before .before .before .args .list .now) (c .before .before .before .before .before .before .before .before .before .before .before .before .before .before .before .before .args .tab .now) (c .before .before .before .before .before .before .before .before .before .before .before .before .before .before .before .before .args .back .now) (c .before .before .before .before .before .before .before .before .before .before .before .before .before .before .before .before .args .p .now) (c .before .before .before .before .before .before .before .before .before .before .before .before .before .before .before .before .args .u .now) (length (c .before .before .before .before .before .before .before .before .before .before .before .before .before .before .before .before .args .work .now)) (c .before .before .before .before .before .before .before .before .before .before .before .before .before .before .before .before .pre .1 .0) (c .before .before .before .before .before .before .n .given .0 .0) (c .before .before .before .before .before .before .before .before .before .before .way-of .last .1 .1 .1 .1 .1 .1 .0) (constant-way (c .before .before .before .before .before .before .before .before .before .before .before .before .before .before .before .before .args .s .now) (c .before .before .before .before .before .before .before .before .before .before .before .before .before .before .before .before .args .list .now) (c .before .before .before .before .before .before .before .before .before .before .before .before .before .before .before .before .args .tab .now) (c .before .before .before .before .before .before .before .before .before .before .before .before .before .before .before .before .args .back .now) (c .before .before .before .before .before .before .before .before .before .before .before .before .before .before .before .before .args .p .now) (c .before .before .before .before .before .before .before .before .before .before .before .before .before .before .before .before .args .u .now) (length (c .before .before .before .before .before .before .before .before .before .before .before .before .before .before .before .before .args .work .now)) (c .before .before .before .before .before .before .before .before .before .before .before .before .before .before .before .before .pre .1 .0) (c .before .before .before .before .before .before .before .before .before .before .way-of .result) (c .before .before .before .before .before .before .before .before .before .before .way-of .last .1 .1 .1 .1 .1 .1 .0) (c .before .before .before .before .before .before .before .before .before .before .way-of .ensures) (c .before .before .before .before .before .before .n .given .0 .0) (c .before .before .before .before .before .before .n .given .1))) (c .before .before .before .before .before .before .before .before .before .before .before .before .before .before .before .before .pre .1 .1)) in omega (arith, c .before .before .before .before .before .before .before .before .before .before .before .before .before .before .before .before .good)
 
--- src/lib.rt:29:13
 write-add-result-2 : (t : ℕ) → write-lts.Need-add-result-2 (
   way-of-reads.Asked,
   way-of-reads.Learnt,
@@ -163,7 +156,6 @@ write-add-result-2 : (t : ℕ) → write-lts.Need-add-result-2 (
 ) (write-at t) write.Post
 write-add-result-2 t c = let y = record-room (c .before .before .before .before .before .before .before .before .before .before .before .before .before .before .before .before .args .o) 1 ((constant-way (c .before .before .before .before .before .before .before .before .before .before .before .before .before .before .before .before .args .s .now) (c .before .before .before .before .before .before .before .before .before .before .before .before .before .before .before .before .args .list .now) (c .before .before .before .before .before .before .before .before .before .before .before .before .before .before .before .before .args .tab .now) (c .before .before .before .before .before .before .before .before .before .before .before .before .before .before .before .before .args .back .now) (c .before .before .before .before .before .before .before .before .before .before .before .before .before .before .before .before .args .p .now) (c .before .before .before .before .before .before .before .before .before .before .before .before .before .before .before .before .args .u .now) (length (c .before .before .before .before .before .before .before .before .before .before .before .before .before .before .before .before .args .work .now)) (c .before .before .before .before .before .before .before .before .before .before .before .before .before .before .before .before .pre .1 .0) (c .before .before .before .before .before .before .before .before .before .before .way-of .result) (c .before .before .before .before .before .before .before .before .before .before .way-of .last .1 .1 .1 .1 .1 .1 .0) (c .before .before .before .before .before .before .before .before .before .before .way-of .ensures) (c .before .before .before .before .before .before .n .given .0 .0) (c .before .before .before .before .before .before .n .given .1)) .held) (c .before .before .before .before .before .before .before .before .before .before .before .before .before .before .before .before .args .out .now) (same-fitting (c .before .before .before .before .before .before .before .before .before .before .before .before .before .before .before .before .args .o) (foldedAt (c .before .before .before .before .before .before .before .before .before .before .before .before .before .before .before .before .args .list .now) (c .before .before .before .before .before .before .before .before .before .before .before .before .before .before .before .before .args .s .now)) (recordOf 1 ((constant-way (c .before .before .before .before .before .before .before .before .before .before .before .before .before .before .before .before .args .s .now) (c .before .before .before .before .before .before .before .before .before .before .before .before .before .before .before .before .args .list .now) (c .before .before .before .before .before .before .before .before .before .before .before .before .before .before .before .before .args .tab .now) (c .before .before .before .before .before .before .before .before .before .before .before .before .before .before .before .before .args .back .now) (c .before .before .before .before .before .before .before .before .before .before .before .before .before .before .before .before .args .p .now) (c .before .before .before .before .before .before .before .before .before .before .before .before .before .before .before .before .args .u .now) (length (c .before .before .before .before .before .before .before .before .before .before .before .before .before .before .before .before .args .work .now)) (c .before .before .before .before .before .before .before .before .before .before .before .before .before .before .before .before .pre .1 .0) (c .before .before .before .before .before .before .before .before .before .before .way-of .result) (c .before .before .before .before .before .before .before .before .before .before .way-of .last .1 .1 .1 .1 .1 .1 .0) (c .before .before .before .before .before .before .before .before .before .before .way-of .ensures) (c .before .before .before .before .before .before .n .given .0 .0) (c .before .before .before .before .before .before .n .given .1)) .held)) (c .before .before .before .before .before .before .before .before .before .before .before .before .before .before .before .before .args .out .now) (constant-folded (c .before .before .before .before .before .before .before .before .before .before .before .before .before .before .before .before .args .s .now) (c .before .before .before .before .before .before .before .before .before .before .before .before .before .before .before .before .args .list .now) (c .before .before .before .before .before .before .before .before .before .before .before .before .before .before .before .before .args .tab .now) (c .before .before .before .before .before .before .before .before .before .before .before .before .before .before .before .before .args .back .now) (c .before .before .before .before .before .before .before .before .before .before .before .before .before .before .before .before .args .p .now) (c .before .before .before .before .before .before .before .before .before .before .before .before .before .before .before .before .args .u .now) (length (c .before .before .before .before .before .before .before .before .before .before .before .before .before .before .before .before .args .work .now)) (c .before .before .before .before .before .before .before .before .before .before .before .before .before .before .before .before .pre .1 .0) (c .before .before .before .before .before .before .n .given .0 .0) (c .before .before .before .before .before .before .before .before .before .before .way-of .last .1 .1 .1 .1 .1 .1 .0) (constant-way (c .before .before .before .before .before .before .before .before .before .before .before .before .before .before .before .before .args .s .now) (c .before .before .before .before .before .before .before .before .before .before .before .before .before .before .before .before .args .list .now) (c .before .before .before .before .before .before .before .before .before .before .before .before .before .before .before .before .args .tab .now) (c .before .before .before .before .before .before .before .before .before .before .before .before .before .before .before .before .args .back .now) (c .before .before .before .before .before .before .before .before .before .before .before .before .before .before .before .before .args .p .now) (c .before .before .before .before .before .before .before .before .before .before .before .before .before .before .before .before .args .u .now) (length (c .before .before .before .before .before .before .before .before .before .before .before .before .before .before .before .before .args .work .now)) (c .before .before .before .before .before .before .before .before .before .before .before .before .before .before .before .before .pre .1 .0) (c .before .before .before .before .before .before .before .before .before .before .way-of .result) (c .before .before .before .before .before .before .before .before .before .before .way-of .last .1 .1 .1 .1 .1 .1 .0) (c .before .before .before .before .before .before .before .before .before .before .way-of .ensures) (c .before .before .before .before .before .before .n .given .0 .0) (c .before .before .before .before .before .before .n .given .1))) (c .before .before .before .before .before .before .before .before .before .before .before .before .before .before .before .before .pre .1 .1)) in let s = (constant-way (c .before .before .before .before .before .before .before .before .before .before .before .before .before .before .before .before .args .s .now) (c .before .before .before .before .before .before .before .before .before .before .before .before .before .before .before .before .args .list .now) (c .before .before .before .before .before .before .before .before .before .before .before .before .before .before .before .before .args .tab .now) (c .before .before .before .before .before .before .before .before .before .before .before .before .before .before .before .before .args .back .now) (c .before .before .before .before .before .before .before .before .before .before .before .before .before .before .before .before .args .p .now) (c .before .before .before .before .before .before .before .before .before .before .before .before .before .before .before .before .args .u .now) (length (c .before .before .before .before .before .before .before .before .before .before .before .before .before .before .before .before .args .work .now)) (c .before .before .before .before .before .before .before .before .before .before .before .before .before .before .before .before .pre .1 .0) (c .before .before .before .before .before .before .before .before .before .before .way-of .result) (c .before .before .before .before .before .before .before .before .before .before .way-of .last .1 .1 .1 .1 .1 .1 .0) (c .before .before .before .before .before .before .before .before .before .before .way-of .ensures) (c .before .before .before .before .before .before .n .given .0 .0) (c .before .before .before .before .before .before .n .given .1)) .size in omega (arith, c .before .before .before .before .before .before .before .before .before .before .before .before .before .before .before .before .good)
 
--- src/lib.rt:31:19
 write-enum-known-a : (t : ℕ) → write-lts.Need-enum-known-a (
   way-of-reads.Asked,
   way-of-reads.Learnt,
@@ -180,7 +172,6 @@ write-enum-known-a : (t : ℕ) → write-lts.Need-enum-known-a (
 ) (write-at t) write.Post
 write-enum-known-a t c = search needs
 
--- src/lib.rt:32:21
 write-sub-q : (t : ℕ) → write-lts.Need-sub-q (
   way-of-reads.Asked,
   way-of-reads.Learnt,
@@ -197,7 +188,6 @@ write-sub-q : (t : ℕ) → write-lts.Need-sub-q (
 ) (write-at t) write.Post
 write-sub-q t c = let w = (side-way (c .before .before .before .before .before .before .before .before .before .before .before .args .s .now) (c .before .before .before .before .before .before .before .before .before .before .before .args .list .now) (c .before .before .before .before .before .before .before .before .before .before .before .args .tab .now) (c .before .before .before .before .before .before .before .before .before .before .before .args .back .now) (c .before .before .before .before .before .before .before .before .before .before .before .args .p .now) (c .before .before .before .before .before .before .before .before .before .before .before .args .u .now) (length (c .before .before .before .before .before .before .before .before .before .before .before .args .work .now)) (c .before .before .before .before .before .before .before .before .before .before .before .pre .1 .0) (c .before .before .before .before .before .way-of .result) (c .before .before .before .before .before .way-of .last .1 .1 .1 .1 .1 .1 .0) (c .before .before .before .before .before .way-of .ensures) (c .before .a .given .0 .0) (c .before .a .given .0 .1 .0) (c .before .a .given .1)) .order in omega arith
 
--- src/lib.rt:32:21
 write-part-q-start : (t : ℕ) → write-lts.Need-part-q-start (
   way-of-reads.Asked,
   way-of-reads.Learnt,
@@ -214,7 +204,6 @@ write-part-q-start : (t : ℕ) → write-lts.Need-part-q-start (
 ) (write-at t) write.Post
 write-part-q-start t c = let w = (side-way (c .before .before .before .before .before .before .before .before .before .before .before .args .s .now) (c .before .before .before .before .before .before .before .before .before .before .before .args .list .now) (c .before .before .before .before .before .before .before .before .before .before .before .args .tab .now) (c .before .before .before .before .before .before .before .before .before .before .before .args .back .now) (c .before .before .before .before .before .before .before .before .before .before .before .args .p .now) (c .before .before .before .before .before .before .before .before .before .before .before .args .u .now) (length (c .before .before .before .before .before .before .before .before .before .before .before .args .work .now)) (c .before .before .before .before .before .before .before .before .before .before .before .pre .1 .0) (c .before .before .before .before .before .way-of .result) (c .before .before .before .before .before .way-of .last .1 .1 .1 .1 .1 .1 .0) (c .before .before .before .before .before .way-of .ensures) (c .before .a .given .0 .0) (c .before .a .given .0 .1 .0) (c .before .a .given .1)) .order in omega arith
 
--- src/lib.rt:32:21
 write-part-q-end : (t : ℕ) → write-lts.Need-part-q-end (
   way-of-reads.Asked,
   way-of-reads.Learnt,
@@ -231,7 +220,6 @@ write-part-q-end : (t : ℕ) → write-lts.Need-part-q-end (
 ) (write-at t) write.Post
 write-part-q-end t c = let w = (side-way (c .before .before .before .before .before .before .before .before .before .before .before .args .s .now) (c .before .before .before .before .before .before .before .before .before .before .before .args .list .now) (c .before .before .before .before .before .before .before .before .before .before .before .args .tab .now) (c .before .before .before .before .before .before .before .before .before .before .before .args .back .now) (c .before .before .before .before .before .before .before .before .before .before .before .args .p .now) (c .before .before .before .before .before .before .before .before .before .before .before .args .u .now) (length (c .before .before .before .before .before .before .before .before .before .before .before .args .work .now)) (c .before .before .before .before .before .before .before .before .before .before .before .pre .1 .0) (c .before .before .before .before .before .way-of .result) (c .before .before .before .before .before .way-of .last .1 .1 .1 .1 .1 .1 .0) (c .before .before .before .before .before .way-of .ensures) (c .before .a .given .0 .0) (c .before .a .given .0 .1 .0) (c .before .a .given .1)) .end in omega arith
 
--- src/lib.rt:33:13
 write-write-requires : (t : ℕ) → write-lts.Need-write-requires (
   way-of-reads.Asked,
   way-of-reads.Learnt,
@@ -248,7 +236,6 @@ write-write-requires : (t : ℕ) → write-lts.Need-write-requires (
 ) (write-at t) write.Post
 write-write-requires t c κs = let w = (side-way (c .before .before .before .before .before .before .before .before .before .before .before .before .before .before .args .s .now) (c .before .before .before .before .before .before .before .before .before .before .before .before .before .before .args .list .now) (c .before .before .before .before .before .before .before .before .before .before .before .before .before .before .args .tab .now) (c .before .before .before .before .before .before .before .before .before .before .before .before .before .before .args .back .now) (c .before .before .before .before .before .before .before .before .before .before .before .before .before .before .args .p .now) (c .before .before .before .before .before .before .before .before .before .before .before .before .before .before .args .u .now) (length (c .before .before .before .before .before .before .before .before .before .before .before .before .before .before .args .work .now)) (c .before .before .before .before .before .before .before .before .before .before .before .before .before .before .pre .1 .0) (c .before .before .before .before .before .before .before .before .way-of .result) (c .before .before .before .before .before .before .before .before .way-of .last .1 .1 .1 .1 .1 .1 .0) (c .before .before .before .before .before .before .before .before .way-of .ensures) (c .before .before .before .before .a .given .0 .0) (c .before .before .before .before .a .given .0 .1 .0) (c .before .before .before .before .a .given .1)) in let x = w .start in let y = w .end in let z = w .order in let l1 = length-take ((c .before .before .before .before .a .given .0 .1 .0) - (c .before .before .before .before .a .given .0 .0)) (drop (c .before .before .before .before .a .given .0 .0) (c .before .before .before .before .before .before .before .before .before .before .before .before .before .before .args .s .now)) in let l2 = length-drop (c .before .before .before .before .a .given .0 .0) (c .before .before .before .before .before .before .before .before .before .before .before .before .before .before .args .s .now) in (omega (arith, c .before .before .before .before .before .before .before .before .before .before .before .before .before .before .pre .0), (side-ready (c .before .before .before .before .before .before .before .before .before .before .before .before .before .before .args .s .now) (c .before .before .before .before .before .before .before .before .before .before .before .before .before .before .args .list .now) (c .before .before .before .before .before .before .before .before .before .before .before .before .before .before .args .tab .now) (c .before .before .before .before .before .before .before .before .before .before .before .before .before .before .args .back .now) (c .before .before .before .before .before .before .before .before .before .before .before .before .before .before .args .p .now) (c .before .before .before .before .before .before .before .before .before .before .before .before .before .before .args .u .now) (length (c .before .before .before .before .before .before .before .before .before .before .before .before .before .before .args .work .now)) (c .before .before .before .before .before .before .before .before .before .before .before .before .before .before .pre .1 .0) (c .before .before .before .before .a .given .0 .0) (c .before .before .before .before .a .given .0 .1 .0) w _ (omega (arith, c .before .before .before .before .before .before .before .before .way-of .kept .1 .1 .1 .1 .1 .1 .0)), same-fitting (c .before .before .before .before .before .before .before .before .before .before .before .before .before .before .args .o) (foldedAt (c .before .before .before .before .before .before .before .before .before .before .before .before .before .before .args .list .now) (c .before .before .before .before .before .before .before .before .before .before .before .before .before .before .args .s .now)) (foldedAt (c .before .before .before .before .before .before .before .before .before .before .before .before .before .before .args .list .now) (take ((c .before .before .before .before .a .given .0 .1 .0) - (c .before .before .before .before .a .given .0 .0)) (drop (c .before .before .before .before .a .given .0 .0) (c .before .before .before .before .before .before .before .before .before .before .before .before .before .before .args .s .now)))) (c .before .before .before .before .before .before .before .before .before .before .before .before .before .before .args .out .now) (sym (side-folded (c .before .before .before .before .before .before .before .before .before .before .before .before .before .before .args .s .now) (c .before .before .before .before .before .before .before .before .before .before .before .before .before .before .args .list .now) (c .before .before .before .before .before .before .before .before .before .before .before .before .before .before .args .tab .now) (c .before .before .before .before .before .before .before .before .before .before .before .before .before .before .args .back .now) (c .before .before .before .before .before .before .before .before .before .before .before .before .before .before .args .p .now) (c .before .before .before .before .before .before .before .before .before .before .before .before .before .before .args .u .now) (length (c .before .before .before .before .before .before .before .before .before .before .before .before .before .before .args .work .now)) (c .before .before .before .before .before .before .before .before .before .before .before .before .before .before .pre .1 .0) (c .before .before .before .before .a .given .0 .0) (c .before .before .before .before .a .given .0 .1 .0) w)) (c .before .before .before .before .before .before .before .before .before .before .before .before .before .before .pre .1 .1)))
 
--- src/lib.rt:35:19
 write-enum-known-e : (t : ℕ) → write-lts.Need-enum-known-e (
   way-of-reads.Asked,
   way-of-reads.Learnt,
@@ -265,7 +252,6 @@ write-enum-known-e : (t : ℕ) → write-lts.Need-enum-known-e (
 ) (write-at t) write.Post
 write-enum-known-e t c = search needs
 
--- src/lib.rt:36:17
 write-slice-aggregate-q : (t : ℕ) → write-lts.Need-slice-aggregate-q (
   way-of-reads.Asked,
   way-of-reads.Learnt,
@@ -282,7 +268,6 @@ write-slice-aggregate-q : (t : ℕ) → write-lts.Need-slice-aggregate-q (
 ) (write-at t) write.Post
 write-slice-aggregate-q t c = let w = (leaf-way (c .before .before .before .before .before .before .before .before .before .before .before .before .args .s .now) (c .before .before .before .before .before .before .before .before .before .before .before .before .args .list .now) (c .before .before .before .before .before .before .before .before .before .before .before .before .args .tab .now) (c .before .before .before .before .before .before .before .before .before .before .before .before .args .back .now) (c .before .before .before .before .before .before .before .before .before .before .before .before .args .p .now) (c .before .before .before .before .before .before .before .before .before .before .before .before .args .u .now) (length (c .before .before .before .before .before .before .before .before .before .before .before .before .args .work .now)) (c .before .before .before .before .before .before .before .before .before .before .before .before .pre .1 .0) (c .before .before .before .before .before .before .way-of .result) (c .before .before .before .before .before .before .way-of .last .1 .1 .1 .1 .1 .1 .0) (c .before .before .before .before .before .before .way-of .ensures) (c .before .before .e .given .0 .0) (c .before .before .e .given .1)) .end in let z = length-take (c .before .before .e .given .0 .0) (c .before .before .before .before .before .before .before .before .before .before .before .before .args .s .now) in omega arith
 
--- src/lib.rt:37:13
 write-put-requires : (t : ℕ) → write-lts.Need-put-requires (
   way-of-reads.Asked,
   way-of-reads.Learnt,
@@ -299,7 +284,6 @@ write-put-requires : (t : ℕ) → write-lts.Need-put-requires (
 ) (write-at t) write.Post
 write-put-requires t c κs = let x = ap length (leaf-folded (c .before .before .before .before .before .before .before .before .before .before .before .before .before .args .s .now) (c .before .before .before .before .before .before .before .before .before .before .before .before .before .args .list .now) (c .before .before .before .before .before .before .before .before .before .before .before .before .before .args .tab .now) (c .before .before .before .before .before .before .before .before .before .before .before .before .before .args .back .now) (c .before .before .before .before .before .before .before .before .before .before .before .before .before .args .p .now) (c .before .before .before .before .before .before .before .before .before .before .before .before .before .args .u .now) (length (c .before .before .before .before .before .before .before .before .before .before .before .before .before .args .work .now)) (c .before .before .before .before .before .before .before .before .before .before .before .before .before .pre .1 .0) (c .before .before .before .e .given .0 .0) (leaf-way (c .before .before .before .before .before .before .before .before .before .before .before .before .before .args .s .now) (c .before .before .before .before .before .before .before .before .before .before .before .before .before .args .list .now) (c .before .before .before .before .before .before .before .before .before .before .before .before .before .args .tab .now) (c .before .before .before .before .before .before .before .before .before .before .before .before .before .args .back .now) (c .before .before .before .before .before .before .before .before .before .before .before .before .before .args .p .now) (c .before .before .before .before .before .before .before .before .before .before .before .before .before .args .u .now) (length (c .before .before .before .before .before .before .before .before .before .before .before .before .before .args .work .now)) (c .before .before .before .before .before .before .before .before .before .before .before .before .before .pre .1 .0) (c .before .before .before .before .before .before .before .way-of .result) (c .before .before .before .before .before .before .before .way-of .last .1 .1 .1 .1 .1 .1 .0) (c .before .before .before .before .before .before .before .way-of .ensures) (c .before .before .before .e .given .0 .0) (c .before .before .before .e .given .1))) in let y = (c .before .before .before .before .before .before .before .before .before .before .before .before .before .pre .1 .1) .fits in omega arith
 
--- src/lib.rt:38:13
 write-add-result-3 : (t : ℕ) → write-lts.Need-add-result-3 (
   way-of-reads.Asked,
   way-of-reads.Learnt,
@@ -316,7 +300,6 @@ write-add-result-3 : (t : ℕ) → write-lts.Need-add-result-3 (
 ) (write-at t) write.Post
 write-add-result-3 t c = let x = leaf-size (c .before .before .before .before .before .before .before .before .before .before .before .before .before .before .before .before .args .s .now) (c .before .before .before .before .before .before .before .before .before .before .before .before .before .before .before .before .args .list .now) (c .before .before .before .before .before .before .before .before .before .before .before .before .before .before .before .before .args .tab .now) (c .before .before .before .before .before .before .before .before .before .before .before .before .before .before .before .before .args .back .now) (c .before .before .before .before .before .before .before .before .before .before .before .before .before .before .before .before .args .p .now) (c .before .before .before .before .before .before .before .before .before .before .before .before .before .before .before .before .args .u .now) (length (c .before .before .before .before .before .before .before .before .before .before .before .before .before .before .before .before .args .work .now)) (c .before .before .before .before .before .before .before .before .before .before .before .before .before .before .before .before .pre .1 .0) (c .before .before .before .before .before .before .e .given .0 .0) (leaf-way (c .before .before .before .before .before .before .before .before .before .before .before .before .before .before .before .before .args .s .now) (c .before .before .before .before .before .before .before .before .before .before .before .before .before .before .before .before .args .list .now) (c .before .before .before .before .before .before .before .before .before .before .before .before .before .before .before .before .args .tab .now) (c .before .before .before .before .before .before .before .before .before .before .before .before .before .before .before .before .args .back .now) (c .before .before .before .before .before .before .before .before .before .before .before .before .before .before .before .before .args .p .now) (c .before .before .before .before .before .before .before .before .before .before .before .before .before .before .before .before .args .u .now) (length (c .before .before .before .before .before .before .before .before .before .before .before .before .before .before .before .before .args .work .now)) (c .before .before .before .before .before .before .before .before .before .before .before .before .before .before .before .before .pre .1 .0) (c .before .before .before .before .before .before .before .before .before .before .way-of .result) (c .before .before .before .before .before .before .before .before .before .before .way-of .last .1 .1 .1 .1 .1 .1 .0) (c .before .before .before .before .before .before .before .before .before .before .way-of .ensures) (c .before .before .before .before .before .before .e .given .0 .0) (c .before .before .before .before .before .before .e .given .1)) in let y = (c .before .before .before .before .before .before .before .before .before .before .before .before .before .before .before .before .pre .1 .1) .fits in omega (arith, c .before .before .before .before .before .before .before .before .before .before .before .before .before .before .before .before .good)
 
--- src/lib.rt:40:19
 write-enum-known-k : (t : ℕ) → write-lts.Need-enum-known-k (
   way-of-reads.Asked,
   way-of-reads.Learnt,
@@ -333,7 +316,6 @@ write-enum-known-k : (t : ℕ) → write-lts.Need-enum-known-k (
 ) (write-at t) write.Post
 write-enum-known-k t c = search needs
 
--- src/lib.rt:41:21
 write-sub-q-2 : (t : ℕ) → write-lts.Need-sub-q-2 (
   way-of-reads.Asked,
   way-of-reads.Learnt,
@@ -350,7 +332,6 @@ write-sub-q-2 : (t : ℕ) → write-lts.Need-sub-q-2 (
 ) (write-at t) write.Post
 write-sub-q-2 t c = let w = (call-way (c .before .before .before .before .before .before .before .before .before .before .before .args .s .now) (c .before .before .before .before .before .before .before .before .before .before .before .args .list .now) (c .before .before .before .before .before .before .before .before .before .before .before .args .tab .now) (c .before .before .before .before .before .before .before .before .before .before .before .args .back .now) (c .before .before .before .before .before .before .before .before .before .before .before .args .p .now) (c .before .before .before .before .before .before .before .before .before .before .before .args .u .now) (length (c .before .before .before .before .before .before .before .before .before .before .before .args .work .now)) (c .before .before .before .before .before .before .before .before .before .before .before .pre .1 .0) (c .before .before .before .before .before .way-of .result) (c .before .before .before .before .before .way-of .last .1 .1 .1 .1 .1 .1 .0) (c .before .before .before .before .before .way-of .ensures) (c .before .k .given .0 .0) (c .before .k .given .0 .1 .0) (c .before .k .given .0 .1 .1 .0) (c .before .k .given .1)) .start in omega arith
 
--- src/lib.rt:41:21
 write-part-q-start-2 : (t : ℕ) → write-lts.Need-part-q-start-2 (
   way-of-reads.Asked,
   way-of-reads.Learnt,
@@ -367,7 +348,6 @@ write-part-q-start-2 : (t : ℕ) → write-lts.Need-part-q-start-2 (
 ) (write-at t) write.Post
 write-part-q-start-2 t c = let w = (call-way (c .before .before .before .before .before .before .before .before .before .before .before .args .s .now) (c .before .before .before .before .before .before .before .before .before .before .before .args .list .now) (c .before .before .before .before .before .before .before .before .before .before .before .args .tab .now) (c .before .before .before .before .before .before .before .before .before .before .before .args .back .now) (c .before .before .before .before .before .before .before .before .before .before .before .args .p .now) (c .before .before .before .before .before .before .before .before .before .before .before .args .u .now) (length (c .before .before .before .before .before .before .before .before .before .before .before .args .work .now)) (c .before .before .before .before .before .before .before .before .before .before .before .pre .1 .0) (c .before .before .before .before .before .way-of .result) (c .before .before .before .before .before .way-of .last .1 .1 .1 .1 .1 .1 .0) (c .before .before .before .before .before .way-of .ensures) (c .before .k .given .0 .0) (c .before .k .given .0 .1 .0) (c .before .k .given .0 .1 .1 .0) (c .before .k .given .1)) .start in omega arith
 
--- src/lib.rt:41:21
 write-part-q-end-2 : (t : ℕ) → write-lts.Need-part-q-end-2 (
   way-of-reads.Asked,
   way-of-reads.Learnt,
@@ -384,7 +364,6 @@ write-part-q-end-2 : (t : ℕ) → write-lts.Need-part-q-end-2 (
 ) (write-at t) write.Post
 write-part-q-end-2 t c = let w = (call-way (c .before .before .before .before .before .before .before .before .before .before .before .args .s .now) (c .before .before .before .before .before .before .before .before .before .before .before .args .list .now) (c .before .before .before .before .before .before .before .before .before .before .before .args .tab .now) (c .before .before .before .before .before .before .before .before .before .before .before .args .back .now) (c .before .before .before .before .before .before .before .before .before .before .before .args .p .now) (c .before .before .before .before .before .before .before .before .before .before .before .args .u .now) (length (c .before .before .before .before .before .before .before .before .before .before .before .args .work .now)) (c .before .before .before .before .before .before .before .before .before .before .before .pre .1 .0) (c .before .before .before .before .before .way-of .result) (c .before .before .before .before .before .way-of .last .1 .1 .1 .1 .1 .1 .0) (c .before .before .before .before .before .way-of .ensures) (c .before .k .given .0 .0) (c .before .k .given .0 .1 .0) (c .before .k .given .0 .1 .1 .0) (c .before .k .given .1)) .end in omega arith
 
--- src/lib.rt:42:73
 write-add-writes : (t : ℕ) → write-lts.Need-add-writes (
   way-of-reads.Asked,
   way-of-reads.Learnt,
@@ -401,7 +380,6 @@ write-add-writes : (t : ℕ) → write-lts.Need-add-writes (
 ) (write-at t) write.Post
 write-add-writes t c = let y = record-room (c .before .before .before .before .before .before .before .before .before .before .before .before .before .before .args .o) (c .before .before .before .before .k .given .0 .0) (foldedPast (c .before .before .before .before .before .before .before .before .before .before .before .before .before .before .args .list .now) (take ((c .before .before .before .before .k .given .0 .1 .1 .0) - 4) (drop 4 (c .before .before .before .before .before .before .before .before .before .before .before .before .before .before .args .s .now))) (c .before .before .before .before .k .given .0 .1 .0) 0) (c .before .before .before .before .before .before .before .before .before .before .before .before .before .before .args .out .now) (same-fitting (c .before .before .before .before .before .before .before .before .before .before .before .before .before .before .args .o) (foldedAt (c .before .before .before .before .before .before .before .before .before .before .before .before .before .before .args .list .now) (c .before .before .before .before .before .before .before .before .before .before .before .before .before .before .args .s .now)) (recordOf (c .before .before .before .before .k .given .0 .0) (foldedPast (c .before .before .before .before .before .before .before .before .before .before .before .before .before .before .args .list .now) (take ((c .before .before .before .before .k .given .0 .1 .1 .0) - 4) (drop 4 (c .before .before .before .before .before .before .before .before .before .before .before .before .before .before .args .s .now))) (c .before .before .before .before .k .given .0 .1 .0) 0)) (c .before .before .before .before .before .before .before .before .before .before .before .before .before .before .args .out .now) (call-folded (c .before .before .before .before .before .before .before .before .before .before .before .before .before .before .args .s .now) (c .before .before .before .before .before .before .before .before .before .before .before .before .before .before .args .list .now) (c .before .before .before .before .before .before .before .before .before .before .before .before .before .before .args .tab .now) (c .before .before .before .before .before .before .before .before .before .before .before .before .before .before .args .back .now) (c .before .before .before .before .before .before .before .before .before .before .before .before .before .before .args .p .now) (c .before .before .before .before .before .before .before .before .before .before .before .before .before .before .args .u .now) (length (c .before .before .before .before .before .before .before .before .before .before .before .before .before .before .args .work .now)) (c .before .before .before .before .before .before .before .before .before .before .before .before .before .before .pre .1 .0) (c .before .before .before .before .k .given .0 .0) (c .before .before .before .before .k .given .0 .1 .0) (c .before .before .before .before .k .given .0 .1 .1 .0) (call-way (c .before .before .before .before .before .before .before .before .before .before .before .before .before .before .args .s .now) (c .before .before .before .before .before .before .before .before .before .before .before .before .before .before .args .list .now) (c .before .before .before .before .before .before .before .before .before .before .before .before .before .before .args .tab .now) (c .before .before .before .before .before .before .before .before .before .before .before .before .before .before .args .back .now) (c .before .before .before .before .before .before .before .before .before .before .before .before .before .before .args .p .now) (c .before .before .before .before .before .before .before .before .before .before .before .before .before .before .args .u .now) (length (c .before .before .before .before .before .before .before .before .before .before .before .before .before .before .args .work .now)) (c .before .before .before .before .before .before .before .before .before .before .before .before .before .before .pre .1 .0) (c .before .before .before .before .before .before .before .before .way-of .result) (c .before .before .before .before .before .before .before .before .way-of .last .1 .1 .1 .1 .1 .1 .0) (c .before .before .before .before .before .before .before .before .way-of .ensures) (c .before .before .before .before .k .given .0 .0) (c .before .before .before .before .k .given .0 .1 .0) (c .before .before .before .before .k .given .0 .1 .1 .0) (c .before .before .before .before .k .given .1))) (c .before .before .before .before .before .before .before .before .before .before .before .before .before .before .pre .1 .1)) in omega (arith, c .before .before .before .before .before .before .before .before .before .before .before .before .before .before .good)
 
--- src/lib.rt:42:17
 write-writes-requires : (t : ℕ) → write-lts.Need-writes-requires (
   way-of-reads.Asked,
   way-of-reads.Learnt,
@@ -418,7 +396,6 @@ write-writes-requires : (t : ℕ) → write-lts.Need-writes-requires (
 ) (write-at t) write.Post
 write-writes-requires t c κs = let w = (call-way (c .before .before .before .before .before .before .before .before .before .before .before .before .before .before .args .s .now) (c .before .before .before .before .before .before .before .before .before .before .before .before .before .before .args .list .now) (c .before .before .before .before .before .before .before .before .before .before .before .before .before .before .args .tab .now) (c .before .before .before .before .before .before .before .before .before .before .before .before .before .before .args .back .now) (c .before .before .before .before .before .before .before .before .before .before .before .before .before .before .args .p .now) (c .before .before .before .before .before .before .before .before .before .before .before .before .before .before .args .u .now) (length (c .before .before .before .before .before .before .before .before .before .before .before .before .before .before .args .work .now)) (c .before .before .before .before .before .before .before .before .before .before .before .before .before .before .pre .1 .0) (c .before .before .before .before .before .before .before .before .way-of .result) (c .before .before .before .before .before .before .before .before .way-of .last .1 .1 .1 .1 .1 .1 .0) (c .before .before .before .before .before .before .before .before .way-of .ensures) (c .before .before .before .before .k .given .0 .0) (c .before .before .before .before .k .given .0 .1 .0) (c .before .before .before .before .k .given .0 .1 .1 .0) (c .before .before .before .before .k .given .1)) in let x = w .start in let y = w .end in let z = w .few in let l1 = length-take ((c .before .before .before .before .k .given .0 .1 .1 .0) - 4) (drop 4 (c .before .before .before .before .before .before .before .before .before .before .before .before .before .before .args .s .now)) in let l2 = length-drop 4 (c .before .before .before .before .before .before .before .before .before .before .before .before .before .before .args .s .now) in (omega (arith, c .before .before .before .before .before .before .before .before .before .before .before .before .before .before .pre .0), (call-ready (c .before .before .before .before .before .before .before .before .before .before .before .before .before .before .args .s .now) (c .before .before .before .before .before .before .before .before .before .before .before .before .before .before .args .list .now) (c .before .before .before .before .before .before .before .before .before .before .before .before .before .before .args .tab .now) (c .before .before .before .before .before .before .before .before .before .before .before .before .before .before .args .back .now) (c .before .before .before .before .before .before .before .before .before .before .before .before .before .before .args .p .now) (c .before .before .before .before .before .before .before .before .before .before .before .before .before .before .args .u .now) (length (c .before .before .before .before .before .before .before .before .before .before .before .before .before .before .args .work .now)) (c .before .before .before .before .before .before .before .before .before .before .before .before .before .before .pre .1 .0) (c .before .before .before .before .k .given .0 .0) (c .before .before .before .before .k .given .0 .1 .0) (c .before .before .before .before .k .given .0 .1 .1 .0) w _ (omega (arith, c .before .before .before .before .before .before .before .before .way-of .kept .1 .1 .1 .1 .1 .1 .0)), payload-fitting (c .before .before .before .before .before .before .before .before .before .before .before .before .before .before .args .o) (c .before .before .before .before .k .given .0 .0) (foldedPast (c .before .before .before .before .before .before .before .before .before .before .before .before .before .before .args .list .now) (take ((c .before .before .before .before .k .given .0 .1 .1 .0) - 4) (drop 4 (c .before .before .before .before .before .before .before .before .before .before .before .before .before .before .args .s .now))) (c .before .before .before .before .k .given .0 .1 .0) 0) (c .before .before .before .before .before .before .before .before .before .before .before .before .before .before .args .out .now) (same-fitting (c .before .before .before .before .before .before .before .before .before .before .before .before .before .before .args .o) (foldedAt (c .before .before .before .before .before .before .before .before .before .before .before .before .before .before .args .list .now) (c .before .before .before .before .before .before .before .before .before .before .before .before .before .before .args .s .now)) (recordOf (c .before .before .before .before .k .given .0 .0) (foldedPast (c .before .before .before .before .before .before .before .before .before .before .before .before .before .before .args .list .now) (take ((c .before .before .before .before .k .given .0 .1 .1 .0) - 4) (drop 4 (c .before .before .before .before .before .before .before .before .before .before .before .before .before .before .args .s .now))) (c .before .before .before .before .k .given .0 .1 .0) 0)) (c .before .before .before .before .before .before .before .before .before .before .before .before .before .before .args .out .now) (call-folded (c .before .before .before .before .before .before .before .before .before .before .before .before .before .before .args .s .now) (c .before .before .before .before .before .before .before .before .before .before .before .before .before .before .args .list .now) (c .before .before .before .before .before .before .before .before .before .before .before .before .before .before .args .tab .now) (c .before .before .before .before .before .before .before .before .before .before .before .before .before .before .args .back .now) (c .before .before .before .before .before .before .before .before .before .before .before .before .before .before .args .p .now) (c .before .before .before .before .before .before .before .before .before .before .before .before .before .before .args .u .now) (length (c .before .before .before .before .before .before .before .before .before .before .before .before .before .before .args .work .now)) (c .before .before .before .before .before .before .before .before .before .before .before .before .before .before .pre .1 .0) (c .before .before .before .before .k .given .0 .0) (c .before .before .before .before .k .given .0 .1 .0) (c .before .before .before .before .k .given .0 .1 .1 .0) (call-way (c .before .before .before .before .before .before .before .before .before .before .before .before .before .before .args .s .now) (c .before .before .before .before .before .before .before .before .before .before .before .before .before .before .args .list .now) (c .before .before .before .before .before .before .before .before .before .before .before .before .before .before .args .tab .now) (c .before .before .before .before .before .before .before .before .before .before .before .before .before .before .args .back .now) (c .before .before .before .before .before .before .before .before .before .before .before .before .before .before .args .p .now) (c .before .before .before .before .before .before .before .before .before .before .before .before .before .before .args .u .now) (length (c .before .before .before .before .before .before .before .before .before .before .before .before .before .before .args .work .now)) (c .before .before .before .before .before .before .before .before .before .before .before .before .before .before .pre .1 .0) (c .before .before .before .before .before .before .before .before .way-of .result) (c .before .before .before .before .before .before .before .before .way-of .last .1 .1 .1 .1 .1 .1 .0) (c .before .before .before .before .before .before .before .before .way-of .ensures) (c .before .before .before .before .k .given .0 .0) (c .before .before .before .before .k .given .0 .1 .0) (c .before .before .before .before .k .given .0 .1 .1 .0) (c .before .before .before .before .k .given .1))) (c .before .before .before .before .before .before .before .before .before .before .before .before .before .before .pre .1 .1))))
 
--- src/lib.rt:43:42
 write-sub-put-head : (t : ℕ) → write-lts.Need-sub-put-head (
   way-of-reads.Asked,
   way-of-reads.Learnt,
@@ -435,7 +412,6 @@ write-sub-put-head : (t : ℕ) → write-lts.Need-sub-put-head (
 ) (write-at t) write.Post
 write-sub-put-head t c = let x = c .before .before .before .before .before .writes .ensures .next in omega arith
 
--- src/lib.rt:43:42
 write-sub-put-head-2 : (t : ℕ) → write-lts.Need-sub-put-head-2 (
   way-of-reads.Asked,
   way-of-reads.Learnt,
@@ -452,7 +428,6 @@ write-sub-put-head-2 : (t : ℕ) → write-lts.Need-sub-put-head-2 (
 ) (write-at t) write.Post
 write-sub-put-head-2 t c = let x = c .before .before .before .before .before .writes .ensures .next in omega arith
 
--- src/lib.rt:43:13
 write-put-head-requires : (t : ℕ) → write-lts.Need-put-head-requires (
   way-of-reads.Asked,
   way-of-reads.Learnt,
@@ -469,7 +444,6 @@ write-put-head-requires : (t : ℕ) → write-lts.Need-put-head-requires (
 ) (write-at t) write.Post
 write-put-head-requires t c κs = let x = c .before .before .before .before .before .writes .ensures .next in let y = record-room (c .before .before .before .before .before .before .before .before .before .before .before .before .before .before .before .before .before .before .before .before .args .o) (c .before .before .before .before .before .before .before .before .before .before .k .given .0 .0) (foldedPast (c .before .before .before .before .before .before .before .before .before .before .before .before .before .before .before .before .before .before .before .before .args .list .now) (take ((c .before .before .before .before .before .before .before .before .before .before .k .given .0 .1 .1 .0) - 4) (drop 4 (c .before .before .before .before .before .before .before .before .before .before .before .before .before .before .before .before .before .before .before .before .args .s .now))) (c .before .before .before .before .before .before .before .before .before .before .k .given .0 .1 .0) 0) (c .before .before .before .before .before .before .before .before .before .before .before .before .before .before .before .before .before .before .before .before .args .out .now) (same-fitting (c .before .before .before .before .before .before .before .before .before .before .before .before .before .before .before .before .before .before .before .before .args .o) (foldedAt (c .before .before .before .before .before .before .before .before .before .before .before .before .before .before .before .before .before .before .before .before .args .list .now) (c .before .before .before .before .before .before .before .before .before .before .before .before .before .before .before .before .before .before .before .before .args .s .now)) (recordOf (c .before .before .before .before .before .before .before .before .before .before .k .given .0 .0) (foldedPast (c .before .before .before .before .before .before .before .before .before .before .before .before .before .before .before .before .before .before .before .before .args .list .now) (take ((c .before .before .before .before .before .before .before .before .before .before .k .given .0 .1 .1 .0) - 4) (drop 4 (c .before .before .before .before .before .before .before .before .before .before .before .before .before .before .before .before .before .before .before .before .args .s .now))) (c .before .before .before .before .before .before .before .before .before .before .k .given .0 .1 .0) 0)) (c .before .before .before .before .before .before .before .before .before .before .before .before .before .before .before .before .before .before .before .before .args .out .now) (call-folded (c .before .before .before .before .before .before .before .before .before .before .before .before .before .before .before .before .before .before .before .before .args .s .now) (c .before .before .before .before .before .before .before .before .before .before .before .before .before .before .before .before .before .before .before .before .args .list .now) (c .before .before .before .before .before .before .before .before .before .before .before .before .before .before .before .before .before .before .before .before .args .tab .now) (c .before .before .before .before .before .before .before .before .before .before .before .before .before .before .before .before .before .before .before .before .args .back .now) (c .before .before .before .before .before .before .before .before .before .before .before .before .before .before .before .before .before .before .before .before .args .p .now) (c .before .before .before .before .before .before .before .before .before .before .before .before .before .before .before .before .before .before .before .before .args .u .now) (length (c .before .before .before .before .before .before .before .before .before .before .before .before .before .before .before .before .before .before .before .before .args .work .now)) (c .before .before .before .before .before .before .before .before .before .before .before .before .before .before .before .before .before .before .before .before .pre .1 .0) (c .before .before .before .before .before .before .before .before .before .before .k .given .0 .0) (c .before .before .before .before .before .before .before .before .before .before .k .given .0 .1 .0) (c .before .before .before .before .before .before .before .before .before .before .k .given .0 .1 .1 .0) (call-way (c .before .before .before .before .before .before .before .before .before .before .before .before .before .before .before .before .before .before .before .before .args .s .now) (c .before .before .before .before .before .before .before .before .before .before .before .before .before .before .before .before .before .before .before .before .args .list .now) (c .before .before .before .before .before .before .before .before .before .before .before .before .before .before .before .before .before .before .before .before .args .tab .now) (c .before .before .before .before .before .before .before .before .before .before .before .before .before .before .before .before .before .before .before .before .args .back .now) (c .before .before .before .before .before .before .before .before .before .before .before .before .before .before .before .before .before .before .before .before .args .p .now) (c .before .before .before .before .before .before .before .before .before .before .before .before .before .before .before .before .before .before .before .before .args .u .now) (length (c .before .before .before .before .before .before .before .before .before .before .before .before .before .before .before .before .before .before .before .before .args .work .now)) (c .before .before .before .before .before .before .before .before .before .before .before .before .before .before .before .before .before .before .before .before .pre .1 .0) (c .before .before .before .before .before .before .before .before .before .before .before .before .before .before .way-of .result) (c .before .before .before .before .before .before .before .before .before .before .before .before .before .before .way-of .last .1 .1 .1 .1 .1 .1 .0) (c .before .before .before .before .before .before .before .before .before .before .before .before .before .before .way-of .ensures) (c .before .before .before .before .before .before .before .before .before .before .k .given .0 .0) (c .before .before .before .before .before .before .before .before .before .before .k .given .0 .1 .0) (c .before .before .before .before .before .before .before .before .before .before .k .given .0 .1 .1 .0) (c .before .before .before .before .before .before .before .before .before .before .k .given .1))) (c .before .before .before .before .before .before .before .before .before .before .before .before .before .before .before .before .before .before .before .before .pre .1 .1)) in let z = record-few (c .before .before .before .before .before .before .before .before .before .before .before .before .before .before .before .before .before .before .before .before .args .o) (c .before .before .before .before .before .before .before .before .before .before .k .given .0 .0) (foldedPast (c .before .before .before .before .before .before .before .before .before .before .before .before .before .before .before .before .before .before .before .before .args .list .now) (take ((c .before .before .before .before .before .before .before .before .before .before .k .given .0 .1 .1 .0) - 4) (drop 4 (c .before .before .before .before .before .before .before .before .before .before .before .before .before .before .before .before .before .before .before .before .args .s .now))) (c .before .before .before .before .before .before .before .before .before .before .k .given .0 .1 .0) 0) (c .before .before .before .before .before .before .before .before .before .before .before .before .before .before .before .before .before .before .before .before .args .out .now) (same-fitting (c .before .before .before .before .before .before .before .before .before .before .before .before .before .before .before .before .before .before .before .before .args .o) (foldedAt (c .before .before .before .before .before .before .before .before .before .before .before .before .before .before .before .before .before .before .before .before .args .list .now) (c .before .before .before .before .before .before .before .before .before .before .before .before .before .before .before .before .before .before .before .before .args .s .now)) (recordOf (c .before .before .before .before .before .before .before .before .before .before .k .given .0 .0) (foldedPast (c .before .before .before .before .before .before .before .before .before .before .before .before .before .before .before .before .before .before .before .before .args .list .now) (take ((c .before .before .before .before .before .before .before .before .before .before .k .given .0 .1 .1 .0) - 4) (drop 4 (c .before .before .before .before .before .before .before .before .before .before .before .before .before .before .before .before .before .before .before .before .args .s .now))) (c .before .before .before .before .before .before .before .before .before .before .k .given .0 .1 .0) 0)) (c .before .before .before .before .before .before .before .before .before .before .before .before .before .before .before .before .before .before .before .before .args .out .now) (call-folded (c .before .before .before .before .before .before .before .before .before .before .before .before .before .before .before .before .before .before .before .before .args .s .now) (c .before .before .before .before .before .before .before .before .before .before .before .before .before .before .before .before .before .before .before .before .args .list .now) (c .before .before .before .before .before .before .before .before .before .before .before .before .before .before .before .before .before .before .before .before .args .tab .now) (c .before .before .before .before .before .before .before .before .before .before .before .before .before .before .before .before .before .before .before .before .args .back .now) (c .before .before .before .before .before .before .before .before .before .before .before .before .before .before .before .before .before .before .before .before .args .p .now) (c .before .before .before .before .before .before .before .before .before .before .before .before .before .before .before .before .before .before .before .before .args .u .now) (length (c .before .before .before .before .before .before .before .before .before .before .before .before .before .before .before .before .before .before .before .before .args .work .now)) (c .before .before .before .before .before .before .before .before .before .before .before .before .before .before .before .before .before .before .before .before .pre .1 .0) (c .before .before .before .before .before .before .before .before .before .before .k .given .0 .0) (c .before .before .before .before .before .before .before .before .before .before .k .given .0 .1 .0) (c .before .before .before .before .before .before .before .before .before .before .k .given .0 .1 .1 .0) (call-way (c .before .before .before .before .before .before .before .before .before .before .before .before .before .before .before .before .before .before .before .before .args .s .now) (c .before .before .before .before .before .before .before .before .before .before .before .before .before .before .before .before .before .before .before .before .args .list .now) (c .before .before .before .before .before .before .before .before .before .before .before .before .before .before .before .before .before .before .before .before .args .tab .now) (c .before .before .before .before .before .before .before .before .before .before .before .before .before .before .before .before .before .before .before .before .args .back .now) (c .before .before .before .before .before .before .before .before .before .before .before .before .before .before .before .before .before .before .before .before .args .p .now) (c .before .before .before .before .before .before .before .before .before .before .before .before .before .before .before .before .before .before .before .before .args .u .now) (length (c .before .before .before .before .before .before .before .before .before .before .before .before .before .before .before .before .before .before .before .before .args .work .now)) (c .before .before .before .before .before .before .before .before .before .before .before .before .before .before .before .before .before .before .before .before .pre .1 .0) (c .before .before .before .before .before .before .before .before .before .before .before .before .before .before .way-of .result) (c .before .before .before .before .before .before .before .before .before .before .before .before .before .before .way-of .last .1 .1 .1 .1 .1 .1 .0) (c .before .before .before .before .before .before .before .before .before .before .before .before .before .before .way-of .ensures) (c .before .before .before .before .before .before .before .before .before .before .k .given .0 .0) (c .before .before .before .before .before .before .before .before .before .before .k .given .0 .1 .0) (c .before .before .before .before .before .before .before .before .before .before .k .given .0 .1 .1 .0) (c .before .before .before .before .before .before .before .before .before .before .k .given .1))) (c .before .before .before .before .before .before .before .before .before .before .before .before .before .before .before .before .before .before .before .before .pre .1 .1)) in let q = c .before .before .before .before .before .writes .kept .1 .1 .1 .1 .1 .1 .1 .1 .1 .0 in let h = (call-way (c .before .before .before .before .before .before .before .before .before .before .before .before .before .before .before .before .before .before .before .before .args .s .now) (c .before .before .before .before .before .before .before .before .before .before .before .before .before .before .before .before .before .before .before .before .args .list .now) (c .before .before .before .before .before .before .before .before .before .before .before .before .before .before .before .before .before .before .before .before .args .tab .now) (c .before .before .before .before .before .before .before .before .before .before .before .before .before .before .before .before .before .before .before .before .args .back .now) (c .before .before .before .before .before .before .before .before .before .before .before .before .before .before .before .before .before .before .before .before .args .p .now) (c .before .before .before .before .before .before .before .before .before .before .before .before .before .before .before .before .before .before .before .before .args .u .now) (length (c .before .before .before .before .before .before .before .before .before .before .before .before .before .before .before .before .before .before .before .before .args .work .now)) (c .before .before .before .before .before .before .before .before .before .before .before .before .before .before .before .before .before .before .before .before .pre .1 .0) (c .before .before .before .before .before .before .before .before .before .before .before .before .before .before .way-of .result) (c .before .before .before .before .before .before .before .before .before .before .before .before .before .before .way-of .last .1 .1 .1 .1 .1 .1 .0) (c .before .before .before .before .before .before .before .before .before .before .before .before .before .before .way-of .ensures) (c .before .before .before .before .before .before .before .before .before .before .k .given .0 .0) (c .before .before .before .before .before .before .before .before .before .before .k .given .0 .1 .0) (c .before .before .before .before .before .before .before .before .before .before .k .given .0 .1 .1 .0) (c .before .before .before .before .before .before .before .before .before .before .k .given .1)) .kind in omega arith
 
--- src/lib.rt:11:1
 write-same-length : (t : ℕ) → write-lts.Need-same-length (
   way-of-reads.Asked,
   way-of-reads.Learnt,
@@ -486,7 +460,6 @@ write-same-length : (t : ℕ) → write-lts.Need-same-length (
 ) (write-at t) write.Post
 write-same-length t c = search needs
 
--- src/lib.rt:11:1
 write-same-length-2 : (t : ℕ) → write-lts.Need-same-length-2 (
   way-of-reads.Asked,
   way-of-reads.Learnt,
@@ -503,7 +476,6 @@ write-same-length-2 : (t : ℕ) → write-lts.Need-same-length-2 (
 ) (write-at t) write.Post
 write-same-length-2 t c = search needs
 
--- src/lib.rt:11:1
 write-returns : (t : ℕ) → write-lts.Need-returns (
   way-of-reads.Asked,
   way-of-reads.Learnt,
@@ -520,7 +492,6 @@ write-returns : (t : ℕ) → write-lts.Need-returns (
 ) (write-at t) write.Post
 write-returns t c = let w = (constant-way (c .before .before .before .before .before .before .before .before .before .before .before .before .before .before .before .before .args .s .now) (c .before .before .before .before .before .before .before .before .before .before .before .before .before .before .before .before .args .list .now) (c .before .before .before .before .before .before .before .before .before .before .before .before .before .before .before .before .args .tab .now) (c .before .before .before .before .before .before .before .before .before .before .before .before .before .before .before .before .args .back .now) (c .before .before .before .before .before .before .before .before .before .before .before .before .before .before .before .before .args .p .now) (c .before .before .before .before .before .before .before .before .before .before .before .before .before .before .before .before .args .u .now) (length (c .before .before .before .before .before .before .before .before .before .before .before .before .before .before .before .before .args .work .now)) (c .before .before .before .before .before .before .before .before .before .before .before .before .before .before .before .before .pre .1 .0) (c .before .before .before .before .before .before .before .before .before .before .way-of .result) (c .before .before .before .before .before .before .before .before .before .before .way-of .last .1 .1 .1 .1 .1 .1 .0) (c .before .before .before .before .before .before .before .before .before .before .way-of .ensures) (c .before .before .before .before .before .before .n .given .0 .0) (c .before .before .before .before .before .before .n .given .1)) in let s = w .size in same-written (c .before .before .before .before .before .before .before .before .before .before .before .before .before .before .before .before .args .o) (recordOf 1 (w .held)) (foldedAt (c .before .before .before .before .before .before .before .before .before .before .before .before .before .before .before .before .args .list .now) (c .before .before .before .before .before .before .before .before .before .before .before .before .before .before .before .before .args .s .now)) _ (c .before .before .before .before .before .before .before .before .before .before .before .before .before .before .before .before .args .out .now) (c .before .before .put-record .last .0) (sym (constant-folded (c .before .before .before .before .before .before .before .before .before .before .before .before .before .before .before .before .args .s .now) (c .before .before .before .before .before .before .before .before .before .before .before .before .before .before .before .before .args .list .now) (c .before .before .before .before .before .before .before .before .before .before .before .before .before .before .before .before .args .tab .now) (c .before .before .before .before .before .before .before .before .before .before .before .before .before .before .before .before .args .back .now) (c .before .before .before .before .before .before .before .before .before .before .before .before .before .before .before .before .args .p .now) (c .before .before .before .before .before .before .before .before .before .before .before .before .before .before .before .before .args .u .now) (length (c .before .before .before .before .before .before .before .before .before .before .before .before .before .before .before .before .args .work .now)) (c .before .before .before .before .before .before .before .before .before .before .before .before .before .before .before .before .pre .1 .0) (c .before .before .before .before .before .before .n .given .0 .0) (c .before .before .before .before .before .before .before .before .before .before .way-of .last .1 .1 .1 .1 .1 .1 .0) w)) (record-written (c .before .before .before .before .before .before .before .before .before .before .before .before .before .before .before .before .args .o) 1 (w .held) (c .before .before .before .before .before .before .before .before .before .before .before .before .before .before .before .before .args .out .now) (same-fitting (c .before .before .before .before .before .before .before .before .before .before .before .before .before .before .before .before .args .o) (foldedAt (c .before .before .before .before .before .before .before .before .before .before .before .before .before .before .before .before .args .list .now) (c .before .before .before .before .before .before .before .before .before .before .before .before .before .before .before .before .args .s .now)) (recordOf 1 ((constant-way (c .before .before .before .before .before .before .before .before .before .before .before .before .before .before .before .before .args .s .now) (c .before .before .before .before .before .before .before .before .before .before .before .before .before .before .before .before .args .list .now) (c .before .before .before .before .before .before .before .before .before .before .before .before .before .before .before .before .args .tab .now) (c .before .before .before .before .before .before .before .before .before .before .before .before .before .before .before .before .args .back .now) (c .before .before .before .before .before .before .before .before .before .before .before .before .before .before .before .before .args .p .now) (c .before .before .before .before .before .before .before .before .before .before .before .before .before .before .before .before .args .u .now) (length (c .before .before .before .before .before .before .before .before .before .before .before .before .before .before .before .before .args .work .now)) (c .before .before .before .before .before .before .before .before .before .before .before .before .before .before .before .before .pre .1 .0) (c .before .before .before .before .before .before .before .before .before .before .way-of .result) (c .before .before .before .before .before .before .before .before .before .before .way-of .last .1 .1 .1 .1 .1 .1 .0) (c .before .before .before .before .before .before .before .before .before .before .way-of .ensures) (c .before .before .before .before .before .before .n .given .0 .0) (c .before .before .before .before .before .before .n .given .1)) .held)) (c .before .before .before .before .before .before .before .before .before .before .before .before .before .before .before .before .args .out .now) (constant-folded (c .before .before .before .before .before .before .before .before .before .before .before .before .before .before .before .before .args .s .now) (c .before .before .before .before .before .before .before .before .before .before .before .before .before .before .before .before .args .list .now) (c .before .before .before .before .before .before .before .before .before .before .before .before .before .before .before .before .args .tab .now) (c .before .before .before .before .before .before .before .before .before .before .before .before .before .before .before .before .args .back .now) (c .before .before .before .before .before .before .before .before .before .before .before .before .before .before .before .before .args .p .now) (c .before .before .before .before .before .before .before .before .before .before .before .before .before .before .before .before .args .u .now) (length (c .before .before .before .before .before .before .before .before .before .before .before .before .before .before .before .before .args .work .now)) (c .before .before .before .before .before .before .before .before .before .before .before .before .before .before .before .before .pre .1 .0) (c .before .before .before .before .before .before .n .given .0 .0) (c .before .before .before .before .before .before .before .before .before .before .way-of .last .1 .1 .1 .1 .1 .1 .0) (constant-way (c .before .before .before .before .before .before .before .before .before .before .before .before .before .before .before .before .args .s .now) (c .before .before .before .before .before .before .before .before .before .before .before .before .before .before .before .before .args .list .now) (c .before .before .before .before .before .before .before .before .before .before .before .before .before .before .before .before .args .tab .now) (c .before .before .before .before .before .before .before .before .before .before .before .before .before .before .before .before .args .back .now) (c .before .before .before .before .before .before .before .before .before .before .before .before .before .before .before .before .args .p .now) (c .before .before .before .before .before .before .before .before .before .before .before .before .before .before .before .before .args .u .now) (length (c .before .before .before .before .before .before .before .before .before .before .before .before .before .before .before .before .args .work .now)) (c .before .before .before .before .before .before .before .before .before .before .before .before .before .before .before .before .pre .1 .0) (c .before .before .before .before .before .before .before .before .before .before .way-of .result) (c .before .before .before .before .before .before .before .before .before .before .way-of .last .1 .1 .1 .1 .1 .1 .0) (c .before .before .before .before .before .before .before .before .before .before .way-of .ensures) (c .before .before .before .before .before .before .n .given .0 .0) (c .before .before .before .before .before .before .n .given .1))) (c .before .before .before .before .before .before .before .before .before .before .before .before .before .before .before .before .pre .1 .1)) _ (c .before .before .put-record .last .0) (c .before .before .put-record .ensures ∙ ap (λ v. put (c .before .before .before .before .before .before .before .before .before .before .before .before .before .before .before .before .args .out .now) (c .before .before .before .before .before .before .before .before .before .before .before .before .before .before .before .before .args .o) (recordOf 1 v)) (w .stands)) (omega arith))
 
--- src/lib.rt:11:1
 write-same-length-3 : (t : ℕ) → write-lts.Need-same-length-3 (
   way-of-reads.Asked,
   way-of-reads.Learnt,
@@ -537,7 +508,6 @@ write-same-length-3 : (t : ℕ) → write-lts.Need-same-length-3 (
 ) (write-at t) write.Post
 write-same-length-3 t c = search needs
 
--- src/lib.rt:11:1
 write-same-length-4 : (t : ℕ) → write-lts.Need-same-length-4 (
   way-of-reads.Asked,
   way-of-reads.Learnt,
@@ -554,7 +524,6 @@ write-same-length-4 : (t : ℕ) → write-lts.Need-same-length-4 (
 ) (write-at t) write.Post
 write-same-length-4 t c = search needs
 
--- src/lib.rt:11:1
 write-returns-2 : (t : ℕ) → write-lts.Need-returns-2 (
   way-of-reads.Asked,
   way-of-reads.Learnt,
@@ -571,7 +540,6 @@ write-returns-2 : (t : ℕ) → write-lts.Need-returns-2 (
 ) (write-at t) write.Post
 write-returns-2 t c = same-written (c .before .before .before .before .before .before .before .before .before .before .before .before .before .before .before .before .before .before .before .args .o) (foldedAt (c .before .before .before .before .before .before .before .before .before .before .before .before .before .before .before .before .before .before .before .args .list .now) (take ((c .before .before .before .before .before .before .before .before .before .a .given .0 .1 .0) - (c .before .before .before .before .before .before .before .before .before .a .given .0 .0)) (drop (c .before .before .before .before .before .before .before .before .before .a .given .0 .0) (c .before .before .before .before .before .before .before .before .before .before .before .before .before .before .before .before .before .before .before .args .s .now)))) (foldedAt (c .before .before .before .before .before .before .before .before .before .before .before .before .before .before .before .before .before .before .before .args .list .now) (c .before .before .before .before .before .before .before .before .before .before .before .before .before .before .before .before .before .before .before .args .s .now)) (c .before .before .before .before .write .result) (c .before .before .before .before .before .before .before .before .before .before .before .before .before .before .before .before .before .before .before .args .out .now) (c .before .before .before .before .write .last .1 .1 .1 .1 .1 .1 .1 .0) (side-folded (c .before .before .before .before .before .before .before .before .before .before .before .before .before .before .before .before .before .before .before .args .s .now) (c .before .before .before .before .before .before .before .before .before .before .before .before .before .before .before .before .before .before .before .args .list .now) (c .before .before .before .before .before .before .before .before .before .before .before .before .before .before .before .before .before .before .before .args .tab .now) (c .before .before .before .before .before .before .before .before .before .before .before .before .before .before .before .before .before .before .before .args .back .now) (c .before .before .before .before .before .before .before .before .before .before .before .before .before .before .before .before .before .before .before .args .p .now) (c .before .before .before .before .before .before .before .before .before .before .before .before .before .before .before .before .before .before .before .args .u .now) (length (c .before .before .before .before .before .before .before .before .before .before .before .before .before .before .before .before .before .before .before .args .work .now)) (c .before .before .before .before .before .before .before .before .before .before .before .before .before .before .before .before .before .before .before .pre .1 .0) (c .before .before .before .before .before .before .before .before .before .a .given .0 .0) (c .before .before .before .before .before .before .before .before .before .a .given .0 .1 .0) (side-way (c .before .before .before .before .before .before .before .before .before .before .before .before .before .before .before .before .before .before .before .args .s .now) (c .before .before .before .before .before .before .before .before .before .before .before .before .before .before .before .before .before .before .before .args .list .now) (c .before .before .before .before .before .before .before .before .before .before .before .before .before .before .before .before .before .before .before .args .tab .now) (c .before .before .before .before .before .before .before .before .before .before .before .before .before .before .before .before .before .before .before .args .back .now) (c .before .before .before .before .before .before .before .before .before .before .before .before .before .before .before .before .before .before .before .args .p .now) (c .before .before .before .before .before .before .before .before .before .before .before .before .before .before .before .before .before .before .before .args .u .now) (length (c .before .before .before .before .before .before .before .before .before .before .before .before .before .before .before .before .before .before .before .args .work .now)) (c .before .before .before .before .before .before .before .before .before .before .before .before .before .before .before .before .before .before .before .pre .1 .0) (c .before .before .before .before .before .before .before .before .before .before .before .before .before .way-of .result) (c .before .before .before .before .before .before .before .before .before .before .before .before .before .way-of .last .1 .1 .1 .1 .1 .1 .0) (c .before .before .before .before .before .before .before .before .before .before .before .before .before .way-of .ensures) (c .before .before .before .before .before .before .before .before .before .a .given .0 .0) (c .before .before .before .before .before .before .before .before .before .a .given .0 .1 .0) (c .before .before .before .before .before .before .before .before .before .a .given .1))) (c .before .before .before .before .write .ensures)
 
--- src/lib.rt:11:1
 write-same-length-5 : (t : ℕ) → write-lts.Need-same-length-5 (
   way-of-reads.Asked,
   way-of-reads.Learnt,
@@ -588,7 +556,6 @@ write-same-length-5 : (t : ℕ) → write-lts.Need-same-length-5 (
 ) (write-at t) write.Post
 write-same-length-5 t c = search needs
 
--- src/lib.rt:11:1
 write-same-length-6 : (t : ℕ) → write-lts.Need-same-length-6 (
   way-of-reads.Asked,
   way-of-reads.Learnt,
@@ -605,7 +572,6 @@ write-same-length-6 : (t : ℕ) → write-lts.Need-same-length-6 (
 ) (write-at t) write.Post
 write-same-length-6 t c = search needs
 
--- src/lib.rt:11:1
 write-returns-3 : (t : ℕ) → write-lts.Need-returns-3 (
   way-of-reads.Asked,
   way-of-reads.Learnt,
@@ -623,7 +589,6 @@ write-returns-3 : (t : ℕ) → write-lts.Need-returns-3 (
 unfolding put
 write-returns-3 t c = let x = leaf-size (c .before .before .before .before .before .before .before .before .before .before .before .before .before .before .before .before .args .s .now) (c .before .before .before .before .before .before .before .before .before .before .before .before .before .before .before .before .args .list .now) (c .before .before .before .before .before .before .before .before .before .before .before .before .before .before .before .before .args .tab .now) (c .before .before .before .before .before .before .before .before .before .before .before .before .before .before .before .before .args .back .now) (c .before .before .before .before .before .before .before .before .before .before .before .before .before .before .before .before .args .p .now) (c .before .before .before .before .before .before .before .before .before .before .before .before .before .before .before .before .args .u .now) (length (c .before .before .before .before .before .before .before .before .before .before .before .before .before .before .before .before .args .work .now)) (c .before .before .before .before .before .before .before .before .before .before .before .before .before .before .before .before .pre .1 .0) (c .before .before .before .before .before .before .e .given .0 .0) (leaf-way (c .before .before .before .before .before .before .before .before .before .before .before .before .before .before .before .before .args .s .now) (c .before .before .before .before .before .before .before .before .before .before .before .before .before .before .before .before .args .list .now) (c .before .before .before .before .before .before .before .before .before .before .before .before .before .before .before .before .args .tab .now) (c .before .before .before .before .before .before .before .before .before .before .before .before .before .before .before .before .args .back .now) (c .before .before .before .before .before .before .before .before .before .before .before .before .before .before .before .before .args .p .now) (c .before .before .before .before .before .before .before .before .before .before .before .before .before .before .before .before .args .u .now) (length (c .before .before .before .before .before .before .before .before .before .before .before .before .before .before .before .before .args .work .now)) (c .before .before .before .before .before .before .before .before .before .before .before .before .before .before .before .before .pre .1 .0) (c .before .before .before .before .before .before .before .before .before .before .way-of .result) (c .before .before .before .before .before .before .before .before .before .before .way-of .last .1 .1 .1 .1 .1 .1 .0) (c .before .before .before .before .before .before .before .before .before .before .way-of .ensures) (c .before .before .before .before .before .before .e .given .0 .0) (c .before .before .before .before .before .before .e .given .1)) in was-written (c .before .before .before .before .before .before .before .before .before .before .before .before .before .before .before .before .args .o) (foldedAt (c .before .before .before .before .before .before .before .before .before .before .before .before .before .before .before .before .args .list .now) (c .before .before .before .before .before .before .before .before .before .before .before .before .before .before .before .before .args .s .now)) _ (c .before .before .before .before .before .before .before .before .before .before .before .before .before .before .before .before .args .out .now) (c .before .before .put .last .0) (c .before .before .put .ensures ∙ ap (put (c .before .before .before .before .before .before .before .before .before .before .before .before .before .before .before .before .args .out .now) (c .before .before .before .before .before .before .before .before .before .before .before .before .before .before .before .before .args .o)) (sym (leaf-folded (c .before .before .before .before .before .before .before .before .before .before .before .before .before .before .before .before .args .s .now) (c .before .before .before .before .before .before .before .before .before .before .before .before .before .before .before .before .args .list .now) (c .before .before .before .before .before .before .before .before .before .before .before .before .before .before .before .before .args .tab .now) (c .before .before .before .before .before .before .before .before .before .before .before .before .before .before .before .before .args .back .now) (c .before .before .before .before .before .before .before .before .before .before .before .before .before .before .before .before .args .p .now) (c .before .before .before .before .before .before .before .before .before .before .before .before .before .before .before .before .args .u .now) (length (c .before .before .before .before .before .before .before .before .before .before .before .before .before .before .before .before .args .work .now)) (c .before .before .before .before .before .before .before .before .before .before .before .before .before .before .before .before .pre .1 .0) (c .before .before .before .before .before .before .e .given .0 .0) (leaf-way (c .before .before .before .before .before .before .before .before .before .before .before .before .before .before .before .before .args .s .now) (c .before .before .before .before .before .before .before .before .before .before .before .before .before .before .before .before .args .list .now) (c .before .before .before .before .before .before .before .before .before .before .before .before .before .before .before .before .args .tab .now) (c .before .before .before .before .before .before .before .before .before .before .before .before .before .before .before .before .args .back .now) (c .before .before .before .before .before .before .before .before .before .before .before .before .before .before .before .before .args .p .now) (c .before .before .before .before .before .before .before .before .before .before .before .before .before .before .before .before .args .u .now) (length (c .before .before .before .before .before .before .before .before .before .before .before .before .before .before .before .before .args .work .now)) (c .before .before .before .before .before .before .before .before .before .before .before .before .before .before .before .before .pre .1 .0) (c .before .before .before .before .before .before .before .before .before .before .way-of .result) (c .before .before .before .before .before .before .before .before .before .before .way-of .last .1 .1 .1 .1 .1 .1 .0) (c .before .before .before .before .before .before .before .before .before .before .way-of .ensures) (c .before .before .before .before .before .before .e .given .0 .0) (c .before .before .before .before .before .before .e .given .1))))) (omega arith)
 
--- src/lib.rt:11:1
 write-same-length-7 : (t : ℕ) → write-lts.Need-same-length-7 (
   way-of-reads.Asked,
   way-of-reads.Learnt,
@@ -640,7 +605,6 @@ write-same-length-7 : (t : ℕ) → write-lts.Need-same-length-7 (
 ) (write-at t) write.Post
 write-same-length-7 t c = search needs
 
--- src/lib.rt:11:1
 write-same-length-8 : (t : ℕ) → write-lts.Need-same-length-8 (
   way-of-reads.Asked,
   way-of-reads.Learnt,
@@ -657,7 +621,6 @@ write-same-length-8 : (t : ℕ) → write-lts.Need-same-length-8 (
 ) (write-at t) write.Post
 write-same-length-8 t c = search needs
 
--- src/lib.rt:11:1
 write-returns-4 : (t : ℕ) → write-lts.Need-returns-4 (
   way-of-reads.Asked,
   way-of-reads.Learnt,
@@ -674,7 +637,6 @@ write-returns-4 : (t : ℕ) → write-lts.Need-returns-4 (
 ) (write-at t) write.Post
 write-returns-4 t c = same-written (c .before .before .before .before .before .before .before .before .before .before .before .before .before .before .before .before .before .before .before .before .before .before .before .args .o) (recordOf (c .before .before .before .before .before .before .before .before .before .before .before .before .before .k .given .0 .0) (foldedPast (c .before .before .before .before .before .before .before .before .before .before .before .before .before .before .before .before .before .before .before .before .before .before .before .args .list .now) (take ((c .before .before .before .before .before .before .before .before .before .before .before .before .before .k .given .0 .1 .1 .0) - 4) (drop 4 (c .before .before .before .before .before .before .before .before .before .before .before .before .before .before .before .before .before .before .before .before .before .before .before .args .s .now))) (c .before .before .before .before .before .before .before .before .before .before .before .before .before .k .given .0 .1 .0) 0)) (foldedAt (c .before .before .before .before .before .before .before .before .before .before .before .before .before .before .before .before .before .before .before .before .before .before .before .args .list .now) (c .before .before .before .before .before .before .before .before .before .before .before .before .before .before .before .before .before .before .before .before .before .before .before .args .s .now)) (c .before .before .before .before .before .before .before .before .writes .result) (c .before .before .before .before .before .before .before .before .before .before .before .before .before .before .before .before .before .before .before .before .before .before .before .args .out .now) (c .before .before .put-head .last .0) (sym (call-folded (c .before .before .before .before .before .before .before .before .before .before .before .before .before .before .before .before .before .before .before .before .before .before .before .args .s .now) (c .before .before .before .before .before .before .before .before .before .before .before .before .before .before .before .before .before .before .before .before .before .before .before .args .list .now) (c .before .before .before .before .before .before .before .before .before .before .before .before .before .before .before .before .before .before .before .before .before .before .before .args .tab .now) (c .before .before .before .before .before .before .before .before .before .before .before .before .before .before .before .before .before .before .before .before .before .before .before .args .back .now) (c .before .before .before .before .before .before .before .before .before .before .before .before .before .before .before .before .before .before .before .before .before .before .before .args .p .now) (c .before .before .before .before .before .before .before .before .before .before .before .before .before .before .before .before .before .before .before .before .before .before .before .args .u .now) (length (c .before .before .before .before .before .before .before .before .before .before .before .before .before .before .before .before .before .before .before .before .before .before .before .args .work .now)) (c .before .before .before .before .before .before .before .before .before .before .before .before .before .before .before .before .before .before .before .before .before .before .before .pre .1 .0) (c .before .before .before .before .before .before .before .before .before .before .before .before .before .k .given .0 .0) (c .before .before .before .before .before .before .before .before .before .before .before .before .before .k .given .0 .1 .0) (c .before .before .before .before .before .before .before .before .before .before .before .before .before .k .given .0 .1 .1 .0) (call-way (c .before .before .before .before .before .before .before .before .before .before .before .before .before .before .before .before .before .before .before .before .before .before .before .args .s .now) (c .before .before .before .before .before .before .before .before .before .before .before .before .before .before .before .before .before .before .before .before .before .before .before .args .list .now) (c .before .before .before .before .before .before .before .before .before .before .before .before .before .before .before .before .before .before .before .before .before .before .before .args .tab .now) (c .before .before .before .before .before .before .before .before .before .before .before .before .before .before .before .before .before .before .before .before .before .before .before .args .back .now) (c .before .before .before .before .before .before .before .before .before .before .before .before .before .before .before .before .before .before .before .before .before .before .before .args .p .now) (c .before .before .before .before .before .before .before .before .before .before .before .before .before .before .before .before .before .before .before .before .before .before .before .args .u .now) (length (c .before .before .before .before .before .before .before .before .before .before .before .before .before .before .before .before .before .before .before .before .before .before .before .args .work .now)) (c .before .before .before .before .before .before .before .before .before .before .before .before .before .before .before .before .before .before .before .before .before .before .before .pre .1 .0) (c .before .before .before .before .before .before .before .before .before .before .before .before .before .before .before .before .before .way-of .result) (c .before .before .before .before .before .before .before .before .before .before .before .before .before .before .before .before .before .way-of .last .1 .1 .1 .1 .1 .1 .0) (c .before .before .before .before .before .before .before .before .before .before .before .before .before .before .before .before .before .way-of .ensures) (c .before .before .before .before .before .before .before .before .before .before .before .before .before .k .given .0 .0) (c .before .before .before .before .before .before .before .before .before .before .before .before .before .k .given .0 .1 .0) (c .before .before .before .before .before .before .before .before .before .before .before .before .before .k .given .0 .1 .1 .0) (c .before .before .before .before .before .before .before .before .before .before .before .before .before .k .given .1)))) (head-written (c .before .before .before .before .before .before .before .before .before .before .before .before .before .before .before .before .before .before .before .before .before .before .before .args .o) (c .before .before .before .before .before .before .before .before .before .before .before .before .before .k .given .0 .0) (foldedPast (c .before .before .before .before .before .before .before .before .before .before .before .before .before .before .before .before .before .before .before .before .before .before .before .args .list .now) (take ((c .before .before .before .before .before .before .before .before .before .before .before .before .before .k .given .0 .1 .1 .0) - 4) (drop 4 (c .before .before .before .before .before .before .before .before .before .before .before .before .before .before .before .before .before .before .before .before .before .before .before .args .s .now))) (c .before .before .before .before .before .before .before .before .before .before .before .before .before .k .given .0 .1 .0) 0) (c .before .before .before .before .before .before .before .before .before .before .before .before .before .before .before .before .before .before .before .before .before .before .before .args .out .now) (same-fitting (c .before .before .before .before .before .before .before .before .before .before .before .before .before .before .before .before .before .before .before .before .before .before .before .args .o) (foldedAt (c .before .before .before .before .before .before .before .before .before .before .before .before .before .before .before .before .before .before .before .before .before .before .before .args .list .now) (c .before .before .before .before .before .before .before .before .before .before .before .before .before .before .before .before .before .before .before .before .before .before .before .args .s .now)) (recordOf (c .before .before .before .before .before .before .before .before .before .before .before .before .before .k .given .0 .0) (foldedPast (c .before .before .before .before .before .before .before .before .before .before .before .before .before .before .before .before .before .before .before .before .before .before .before .args .list .now) (take ((c .before .before .before .before .before .before .before .before .before .before .before .before .before .k .given .0 .1 .1 .0) - 4) (drop 4 (c .before .before .before .before .before .before .before .before .before .before .before .before .before .before .before .before .before .before .before .before .before .before .before .args .s .now))) (c .before .before .before .before .before .before .before .before .before .before .before .before .before .k .given .0 .1 .0) 0)) (c .before .before .before .before .before .before .before .before .before .before .before .before .before .before .before .before .before .before .before .before .before .before .before .args .out .now) (call-folded (c .before .before .before .before .before .before .before .before .before .before .before .before .before .before .before .before .before .before .before .before .before .before .before .args .s .now) (c .before .before .before .before .before .before .before .before .before .before .before .before .before .before .before .before .before .before .before .before .before .before .before .args .list .now) (c .before .before .before .before .before .before .before .before .before .before .before .before .before .before .before .before .before .before .before .before .before .before .before .args .tab .now) (c .before .before .before .before .before .before .before .before .before .before .before .before .before .before .before .before .before .before .before .before .before .before .before .args .back .now) (c .before .before .before .before .before .before .before .before .before .before .before .before .before .before .before .before .before .before .before .before .before .before .before .args .p .now) (c .before .before .before .before .before .before .before .before .before .before .before .before .before .before .before .before .before .before .before .before .before .before .before .args .u .now) (length (c .before .before .before .before .before .before .before .before .before .before .before .before .before .before .before .before .before .before .before .before .before .before .before .args .work .now)) (c .before .before .before .before .before .before .before .before .before .before .before .before .before .before .before .before .before .before .before .before .before .before .before .pre .1 .0) (c .before .before .before .before .before .before .before .before .before .before .before .before .before .k .given .0 .0) (c .before .before .before .before .before .before .before .before .before .before .before .before .before .k .given .0 .1 .0) (c .before .before .before .before .before .before .before .before .before .before .before .before .before .k .given .0 .1 .1 .0) (call-way (c .before .before .before .before .before .before .before .before .before .before .before .before .before .before .before .before .before .before .before .before .before .before .before .args .s .now) (c .before .before .before .before .before .before .before .before .before .before .before .before .before .before .before .before .before .before .before .before .before .before .before .args .list .now) (c .before .before .before .before .before .before .before .before .before .before .before .before .before .before .before .before .before .before .before .before .before .before .before .args .tab .now) (c .before .before .before .before .before .before .before .before .before .before .before .before .before .before .before .before .before .before .before .before .before .before .before .args .back .now) (c .before .before .before .before .before .before .before .before .before .before .before .before .before .before .before .before .before .before .before .before .before .before .before .args .p .now) (c .before .before .before .before .before .before .before .before .before .before .before .before .before .before .before .before .before .before .before .before .before .before .before .args .u .now) (length (c .before .before .before .before .before .before .before .before .before .before .before .before .before .before .before .before .before .before .before .before .before .before .before .args .work .now)) (c .before .before .before .before .before .before .before .before .before .before .before .before .before .before .before .before .before .before .before .before .before .before .before .pre .1 .0) (c .before .before .before .before .before .before .before .before .before .before .before .before .before .before .before .before .before .way-of .result) (c .before .before .before .before .before .before .before .before .before .before .before .before .before .before .before .before .before .way-of .last .1 .1 .1 .1 .1 .1 .0) (c .before .before .before .before .before .before .before .before .before .before .before .before .before .before .before .before .before .way-of .ensures) (c .before .before .before .before .before .before .before .before .before .before .before .before .before .k .given .0 .0) (c .before .before .before .before .before .before .before .before .before .before .before .before .before .k .given .0 .1 .0) (c .before .before .before .before .before .before .before .before .before .before .before .before .before .k .given .0 .1 .1 .0) (c .before .before .before .before .before .before .before .before .before .before .before .before .before .k .given .1))) (c .before .before .before .before .before .before .before .before .before .before .before .before .before .before .before .before .before .before .before .before .before .before .before .pre .1 .1)) (c .before .before .before .before .before .before .before .before .writes .result) (c .before .before .before .before .before .before .before .before .writes .last .1 .1 .1 .1 .1 .1 .1 .1 .1 .0) (c .before .before .put-head .last .0) (c .before .before .before .before .before .before .before .before .writes .ensures) (c .before .before .put-head .ensures))
 
--- src/lib.rt:67:9
 writes-returns : (t : ℕ) → writes-lts.Need-returns (
   head-at-reads.Asked,
   head-at-reads.Learnt,
@@ -685,7 +647,6 @@ writes-returns : (t : ℕ) → writes-lts.Need-returns (
 ) (writes-at t) writes.Post
 writes-returns t c = same-written (c .before .before .before .before .before .args .o) [] (foldedPast (c .before .before .before .before .before .args .list .now) (c .before .before .before .before .before .args .s .now) (c .before .before .before .before .before .args .left) (c .before .before .before .before .before .args .at)) (c .before .before .before .before .before .args .o) (c .before .before .before .before .before .args .out .now) (c .before .before .before .before .before .args .out .now) (sym (past-none (c .before .before .before .before .before .args .left) (c .before .before .before .before .before .args .at) (c .before .before .before .before .before .args .s .now) (c .before .before .before .before .before .args .list .now) (c .before .before .before .before .before .args .tab .now) (c .before .before .before .before .before .args .back .now) (c .before .before .before .before .before .args .p .now) (c .before .before .before .before .before .args .u .now) (length (c .before .before .before .before .before .args .work .now)) (c .before .before .before .before .before .pre .1 .0) (c .if1 .taken))) (none-written (c .before .before .before .before .before .args .o) (c .before .before .before .before .before .args .out .now))
 
--- src/lib.rt:69:13
 writes-sub-q : (t : ℕ) → writes-lts.Need-sub-q (
   head-at-reads.Asked,
   head-at-reads.Learnt,
@@ -696,7 +657,6 @@ writes-sub-q : (t : ℕ) → writes-lts.Need-sub-q (
 ) (writes-at t) writes.Post
 writes-sub-q t c = let w = (c .before .before .before .before .before .pre .1 .0) .within in omega arith
 
--- src/lib.rt:69:13
 writes-part-q-start : (t : ℕ) → writes-lts.Need-part-q-start (
   head-at-reads.Asked,
   head-at-reads.Learnt,
@@ -707,7 +667,6 @@ writes-part-q-start : (t : ℕ) → writes-lts.Need-part-q-start (
 ) (writes-at t) writes.Post
 writes-part-q-start t c = let w = (c .before .before .before .before .before .pre .1 .0) .within in omega arith
 
--- src/lib.rt:69:13
 writes-part-q-end : (t : ℕ) → writes-lts.Need-part-q-end (
   head-at-reads.Asked,
   head-at-reads.Learnt,
@@ -718,7 +677,6 @@ writes-part-q-end : (t : ℕ) → writes-lts.Need-part-q-end (
 ) (writes-at t) writes.Post
 writes-part-q-end t c = let w = (c .before .before .before .before .before .pre .1 .0) .within in omega arith
 
--- src/lib.rt:70:11
 writes-head-at-requires : (t : ℕ) → writes-lts.Need-head-at-requires (
   head-at-reads.Asked,
   head-at-reads.Learnt,
@@ -729,7 +687,6 @@ writes-head-at-requires : (t : ℕ) → writes-lts.Need-head-at-requires (
 ) (writes-at t) writes.Post
 writes-head-at-requires t c κs = search needs
 
--- src/lib.rt:71:22
 writes-enum-told : (t : ℕ) → writes-lts.Need-enum-told (
   head-at-reads.Asked,
   head-at-reads.Learnt,
@@ -740,7 +697,6 @@ writes-enum-told : (t : ℕ) → writes-lts.Need-enum-told (
 ) (writes-at t) writes.Post
 writes-enum-told t c = search needs
 
--- src/lib.rt:72:22
 writes-enum-known-k : (t : ℕ) → writes-lts.Need-enum-known-k (
   head-at-reads.Asked,
   head-at-reads.Learnt,
@@ -751,7 +707,6 @@ writes-enum-known-k : (t : ℕ) → writes-lts.Need-enum-known-k (
 ) (writes-at t) writes.Post
 writes-enum-known-k t c = search needs
 
--- src/lib.rt:73:17
 writes-write-requires : (t : ℕ) → writes-lts.Need-write-requires (
   head-at-reads.Asked,
   head-at-reads.Learnt,
@@ -762,7 +717,6 @@ writes-write-requires : (t : ℕ) → writes-lts.Need-write-requires (
 ) (writes-at t) writes.Post
 writes-write-requires t c κs = let l1 = length-take (length (c .before .before .before .before .before .before .before .before .before .before .before .before .args .s .now) - (c .before .before .before .before .before .before .before .before .before .before .before .before .args .at)) (drop (c .before .before .before .before .before .before .before .before .before .before .before .before .args .at) (c .before .before .before .before .before .before .before .before .before .before .before .before .args .s .now)) in let l2 = length-drop (c .before .before .before .before .before .before .before .before .before .before .before .before .args .at) (c .before .before .before .before .before .before .before .before .before .before .before .before .args .s .now) in (omega (arith, c .before .before .before .before .before .before .before .before .before .before .before .before .pre .0), (part-ready (c .before .before .before .before .before .before .before .before .before .before .before .before .args .left) (c .before .before .before .before .before .before .before .before .before .before .before .before .args .at) (c .before .before .before .before .before .before .before .before .before .before .before .before .args .s .now) (c .before .before .before .before .before .before .before .before .before .before .before .before .args .list .now) (c .before .before .before .before .before .before .before .before .before .before .before .before .args .tab .now) (c .before .before .before .before .before .before .before .before .before .before .before .before .args .back .now) (c .before .before .before .before .before .before .before .before .before .before .before .before .args .p .now) (c .before .before .before .before .before .before .before .before .before .before .before .before .args .u .now) (length (c .before .before .before .before .before .before .before .before .before .before .before .before .args .work .now)) (c .before .before .before .before .before .before .before .before .before .before .before .before .pre .1 .0) (c .before .before .before .before .before .before .before .if1 .left) _ (omega arith), first-fitting (c .before .before .before .before .before .before .before .before .before .before .before .before .args .o) (foldedAt (c .before .before .before .before .before .before .before .before .before .before .before .before .args .list .now) (take (length (c .before .before .before .before .before .before .before .before .before .before .before .before .args .s .now) - (c .before .before .before .before .before .before .before .before .before .before .before .before .args .at)) (drop (c .before .before .before .before .before .before .before .before .before .before .before .before .args .at) (c .before .before .before .before .before .before .before .before .before .before .before .before .args .s .now)))) (foldedPast (c .before .before .before .before .before .before .before .before .before .before .before .before .args .list .now) (c .before .before .before .before .before .before .before .before .before .before .before .before .args .s .now) ((c .before .before .before .before .before .before .before .before .before .before .before .before .args .left) - 1) ((c .before .before .before .before .before .before .before .before .before .before .before .before .args .at) + 4 + (c .before .before .before .k .given .0 .1 .0))) (c .before .before .before .before .before .before .before .before .before .before .before .before .args .out .now) (same-fitting (c .before .before .before .before .before .before .before .before .before .before .before .before .args .o) (foldedPast (c .before .before .before .before .before .before .before .before .before .before .before .before .args .list .now) (c .before .before .before .before .before .before .before .before .before .before .before .before .args .s .now) (c .before .before .before .before .before .before .before .before .before .before .before .before .args .left) (c .before .before .before .before .before .before .before .before .before .before .before .before .args .at)) ((foldedAt (c .before .before .before .before .before .before .before .before .before .before .before .before .args .list .now) (take (length (c .before .before .before .before .before .before .before .before .before .before .before .before .args .s .now) - (c .before .before .before .before .before .before .before .before .before .before .before .before .args .at)) (drop (c .before .before .before .before .before .before .before .before .before .before .before .before .args .at) (c .before .before .before .before .before .before .before .before .before .before .before .before .args .s .now)))) ++ (foldedPast (c .before .before .before .before .before .before .before .before .before .before .before .before .args .list .now) (c .before .before .before .before .before .before .before .before .before .before .before .before .args .s .now) ((c .before .before .before .before .before .before .before .before .before .before .before .before .args .left) - 1) ((c .before .before .before .before .before .before .before .before .before .before .before .before .args .at) + 4 + (c .before .before .before .k .given .0 .1 .0)))) (c .before .before .before .before .before .before .before .before .before .before .before .before .args .out .now) (past-more (c .before .before .before .before .before .before .before .before .before .before .before .before .args .left) (c .before .before .before .before .before .before .before .before .before .before .before .before .args .at) (c .before .before .before .before .before .before .before .before .before .before .before .before .args .s .now) (c .before .before .before .before .before .before .before .before .before .before .before .before .args .list .now) (c .before .before .before .before .before .before .before .before .before .before .before .before .args .tab .now) (c .before .before .before .before .before .before .before .before .before .before .before .before .args .back .now) (c .before .before .before .before .before .before .before .before .before .before .before .before .args .p .now) (c .before .before .before .before .before .before .before .before .before .before .before .before .args .u .now) (length (c .before .before .before .before .before .before .before .before .before .before .before .before .args .work .now)) (c .before .before .before .before .before .before .before .before .before .before .before .before .pre .1 .0) (c .before .before .before .before .before .before .before .if1 .left) (c .before .before .before .k .given .0 .0) (c .before .before .before .k .given .0 .1 .0) (sym (c .before .before .before .before .before .head-at .ensures) ∙ c .before .before .before .k .given .1)) (c .before .before .before .before .before .before .before .before .before .before .before .before .pre .1 .1))))
 
--- src/lib.rt:74:46
 writes-sub-writes : (t : ℕ) → writes-lts.Need-sub-writes (
   head-at-reads.Asked,
   head-at-reads.Learnt,
@@ -773,7 +727,6 @@ writes-sub-writes : (t : ℕ) → writes-lts.Need-sub-writes (
 ) (writes-at t) writes.Post
 writes-sub-writes t c = search needs
 
--- src/lib.rt:74:56
 writes-add-writes : (t : ℕ) → writes-lts.Need-add-writes (
   head-at-reads.Asked,
   head-at-reads.Learnt,
@@ -784,7 +737,6 @@ writes-add-writes : (t : ℕ) → writes-lts.Need-add-writes (
 ) (writes-at t) writes.Post
 writes-add-writes t c = let w = next-within (c .before .before .before .before .before .before .before .before .before .before .before .before .before .before .before .before .before .args .left) (c .before .before .before .before .before .before .before .before .before .before .before .before .before .before .before .before .before .args .at) (c .before .before .before .before .before .before .before .before .before .before .before .before .before .before .before .before .before .args .s .now) (c .before .before .before .before .before .before .before .before .before .before .before .before .before .before .before .before .before .args .list .now) (c .before .before .before .before .before .before .before .before .before .before .before .before .before .before .before .before .before .args .tab .now) (c .before .before .before .before .before .before .before .before .before .before .before .before .before .before .before .before .before .args .back .now) (c .before .before .before .before .before .before .before .before .before .before .before .before .before .before .before .before .before .args .p .now) (c .before .before .before .before .before .before .before .before .before .before .before .before .before .before .before .before .before .args .u .now) (length (c .before .before .before .before .before .before .before .before .before .before .before .before .before .before .before .before .before .args .work .now)) (c .before .before .before .before .before .before .before .before .before .before .before .before .before .before .before .before .before .pre .1 .0) (c .before .before .before .before .before .before .before .before .before .before .before .before .if1 .left) (c .before .before .before .before .before .before .before .before .k .given .0 .0) (c .before .before .before .before .before .before .before .before .k .given .0 .1 .0) (sym (c .before .before .before .before .before .before .before .before .before .before .head-at .ensures) ∙ c .before .before .before .before .before .before .before .before .k .given .1) (λ i. omega (arith, c .before .before .before .before .before .before .before .before .before .before .before .before .before .before .before .before .shared-slice-known .given i)) in omega (arith, c .before .before .before .before .before .before .before .before .before .before .before .before .before .before .before .before .before .good)
 
--- src/lib.rt:74:56
 writes-add-writes-2 : (t : ℕ) → writes-lts.Need-add-writes-2 (
   head-at-reads.Asked,
   head-at-reads.Learnt,
@@ -795,7 +747,6 @@ writes-add-writes-2 : (t : ℕ) → writes-lts.Need-add-writes-2 (
 ) (writes-at t) writes.Post
 writes-add-writes-2 t c = let w = next-within (c .before .before .before .before .before .before .before .before .before .before .before .before .before .before .before .before .before .args .left) (c .before .before .before .before .before .before .before .before .before .before .before .before .before .before .before .before .before .args .at) (c .before .before .before .before .before .before .before .before .before .before .before .before .before .before .before .before .before .args .s .now) (c .before .before .before .before .before .before .before .before .before .before .before .before .before .before .before .before .before .args .list .now) (c .before .before .before .before .before .before .before .before .before .before .before .before .before .before .before .before .before .args .tab .now) (c .before .before .before .before .before .before .before .before .before .before .before .before .before .before .before .before .before .args .back .now) (c .before .before .before .before .before .before .before .before .before .before .before .before .before .before .before .before .before .args .p .now) (c .before .before .before .before .before .before .before .before .before .before .before .before .before .before .before .before .before .args .u .now) (length (c .before .before .before .before .before .before .before .before .before .before .before .before .before .before .before .before .before .args .work .now)) (c .before .before .before .before .before .before .before .before .before .before .before .before .before .before .before .before .before .pre .1 .0) (c .before .before .before .before .before .before .before .before .before .before .before .before .if1 .left) (c .before .before .before .before .before .before .before .before .k .given .0 .0) (c .before .before .before .before .before .before .before .before .k .given .0 .1 .0) (sym (c .before .before .before .before .before .before .before .before .before .before .head-at .ensures) ∙ c .before .before .before .before .before .before .before .before .k .given .1) (λ i. omega (arith, c .before .before .before .before .before .before .before .before .before .before .before .before .before .before .before .before .shared-slice-known .given i)) in omega (arith, c .before .before .before .before .before .before .before .before .before .before .before .before .before .before .before .before .before .good)
 
--- src/lib.rt:74:13
 writes-writes-requires : (t : ℕ) → writes-lts.Need-writes-requires (
   head-at-reads.Asked,
   head-at-reads.Learnt,
@@ -806,7 +757,6 @@ writes-writes-requires : (t : ℕ) → writes-lts.Need-writes-requires (
 ) (writes-at t) writes.Post
 writes-writes-requires t c κs = (omega (arith, c .before .before .before .before .before .before .before .before .before .before .before .before .before .before .before .before .before .before .before .pre .0, c .before .before .before .before .before .before .before .before .before .before .before .before .before .before .if1 .left), (rest-ready (c .before .before .before .before .before .before .before .before .before .before .before .before .before .before .before .before .before .before .before .args .left) (c .before .before .before .before .before .before .before .before .before .before .before .before .before .before .before .before .before .before .before .args .at) (c .before .before .before .before .before .before .before .before .before .before .before .before .before .before .before .before .before .before .before .args .s .now) (c .before .before .before .before .before .before .before .before .before .before .before .before .before .before .before .before .before .before .before .args .list .now) (c .before .before .before .before .before .before .before .before .before .before .before .before .before .before .before .before .before .before .before .args .tab .now) (c .before .before .before .before .before .before .before .before .before .before .before .before .before .before .before .before .before .before .before .args .back .now) (c .before .before .before .before .before .before .before .before .before .before .before .before .before .before .before .before .before .before .before .args .p .now) (c .before .before .before .before .before .before .before .before .before .before .before .before .before .before .before .before .before .before .before .args .u .now) (length (c .before .before .before .before .before .before .before .before .before .before .before .before .before .before .before .before .before .before .before .args .work .now)) (c .before .before .before .before .before .before .before .before .before .before .before .before .before .before .before .before .before .before .before .pre .1 .0) (c .before .before .before .before .before .before .before .before .before .before .before .before .before .before .if1 .left) (c .before .before .before .before .before .before .before .before .before .before .k .given .0 .0) (c .before .before .before .before .before .before .before .before .before .before .k .given .0 .1 .0) (sym (c .before .before .before .before .before .before .before .before .before .before .before .before .head-at .ensures) ∙ c .before .before .before .before .before .before .before .before .before .before .k .given .1) _ (omega (arith, c .before .before .before .before .before .before .write .kept .1 .1 .1 .1 .1 .1 .0)) (λ i. omega (arith, c .before .before .before .before .before .before .before .before .before .before .before .before .before .before .before .before .before .before .shared-slice-known .given i)), second-fitting (c .before .before .before .before .before .before .before .before .before .before .before .before .before .before .before .before .before .before .before .args .o) (foldedAt (c .before .before .before .before .before .before .before .before .before .before .before .before .before .before .before .before .before .before .before .args .list .now) (take (length (c .before .before .before .before .before .before .before .before .before .before .before .before .before .before .before .before .before .before .before .args .s .now) - (c .before .before .before .before .before .before .before .before .before .before .before .before .before .before .before .before .before .before .before .args .at)) (drop (c .before .before .before .before .before .before .before .before .before .before .before .before .before .before .before .before .before .before .before .args .at) (c .before .before .before .before .before .before .before .before .before .before .before .before .before .before .before .before .before .before .before .args .s .now)))) (foldedPast (c .before .before .before .before .before .before .before .before .before .before .before .before .before .before .before .before .before .before .before .args .list .now) (c .before .before .before .before .before .before .before .before .before .before .before .before .before .before .before .before .before .before .before .args .s .now) ((c .before .before .before .before .before .before .before .before .before .before .before .before .before .before .before .before .before .before .before .args .left) - 1) ((c .before .before .before .before .before .before .before .before .before .before .before .before .before .before .before .before .before .before .before .args .at) + 4 + (c .before .before .before .before .before .before .before .before .before .before .k .given .0 .1 .0))) (c .before .before .before .before .before .before .before .before .before .before .before .before .before .before .before .before .before .before .before .args .out .now) (same-fitting (c .before .before .before .before .before .before .before .before .before .before .before .before .before .before .before .before .before .before .before .args .o) (foldedPast (c .before .before .before .before .before .before .before .before .before .before .before .before .before .before .before .before .before .before .before .args .list .now) (c .before .before .before .before .before .before .before .before .before .before .before .before .before .before .before .before .before .before .before .args .s .now) (c .before .before .before .before .before .before .before .before .before .before .before .before .before .before .before .before .before .before .before .args .left) (c .before .before .before .before .before .before .before .before .before .before .before .before .before .before .before .before .before .before .before .args .at)) ((foldedAt (c .before .before .before .before .before .before .before .before .before .before .before .before .before .before .before .before .before .before .before .args .list .now) (take (length (c .before .before .before .before .before .before .before .before .before .before .before .before .before .before .before .before .before .before .before .args .s .now) - (c .before .before .before .before .before .before .before .before .before .before .before .before .before .before .before .before .before .before .before .args .at)) (drop (c .before .before .before .before .before .before .before .before .before .before .before .before .before .before .before .before .before .before .before .args .at) (c .before .before .before .before .before .before .before .before .before .before .before .before .before .before .before .before .before .before .before .args .s .now)))) ++ (foldedPast (c .before .before .before .before .before .before .before .before .before .before .before .before .before .before .before .before .before .before .before .args .list .now) (c .before .before .before .before .before .before .before .before .before .before .before .before .before .before .before .before .before .before .before .args .s .now) ((c .before .before .before .before .before .before .before .before .before .before .before .before .before .before .before .before .before .before .before .args .left) - 1) ((c .before .before .before .before .before .before .before .before .before .before .before .before .before .before .before .before .before .before .before .args .at) + 4 + (c .before .before .before .before .before .before .before .before .before .before .k .given .0 .1 .0)))) (c .before .before .before .before .before .before .before .before .before .before .before .before .before .before .before .before .before .before .before .args .out .now) (past-more (c .before .before .before .before .before .before .before .before .before .before .before .before .before .before .before .before .before .before .before .args .left) (c .before .before .before .before .before .before .before .before .before .before .before .before .before .before .before .before .before .before .before .args .at) (c .before .before .before .before .before .before .before .before .before .before .before .before .before .before .before .before .before .before .before .args .s .now) (c .before .before .before .before .before .before .before .before .before .before .before .before .before .before .before .before .before .before .before .args .list .now) (c .before .before .before .before .before .before .before .before .before .before .before .before .before .before .before .before .before .before .before .args .tab .now) (c .before .before .before .before .before .before .before .before .before .before .before .before .before .before .before .before .before .before .before .args .back .now) (c .before .before .before .before .before .before .before .before .before .before .before .before .before .before .before .before .before .before .before .args .p .now) (c .before .before .before .before .before .before .before .before .before .before .before .before .before .before .before .before .before .before .before .args .u .now) (length (c .before .before .before .before .before .before .before .before .before .before .before .before .before .before .before .before .before .before .before .args .work .now)) (c .before .before .before .before .before .before .before .before .before .before .before .before .before .before .before .before .before .before .before .pre .1 .0) (c .before .before .before .before .before .before .before .before .before .before .before .before .before .before .if1 .left) (c .before .before .before .before .before .before .before .before .before .before .k .given .0 .0) (c .before .before .before .before .before .before .before .before .before .before .k .given .0 .1 .0) (sym (c .before .before .before .before .before .before .before .before .before .before .before .before .head-at .ensures) ∙ c .before .before .before .before .before .before .before .before .before .before .k .given .1)) (c .before .before .before .before .before .before .before .before .before .before .before .before .before .before .before .before .before .before .before .pre .1 .1)) (c .before .before .before .before .before .before .write .result) (c .before .before .before .before .before .before .write .last .1 .1 .1 .1 .1 .1 .1 .0) (c .before .before .before .before .before .before .write .ensures)))
 
--- src/lib.rt:50:1
 writes-returns-2 : (t : ℕ) → writes-lts.Need-returns-2 (
   head-at-reads.Asked,
   head-at-reads.Learnt,
@@ -817,7 +767,6 @@ writes-returns-2 : (t : ℕ) → writes-lts.Need-returns-2 (
 ) (writes-at t) writes.Post
 writes-returns-2 t c = absurd (not-cut (c .before .before .before .before .before .before .before .before .before .args .left) (c .before .before .before .before .before .before .before .before .before .args .at) (c .before .before .before .before .before .before .before .before .before .args .s .now) (c .before .before .before .before .before .before .before .before .before .args .list .now) (c .before .before .before .before .before .before .before .before .before .args .tab .now) (c .before .before .before .before .before .before .before .before .before .args .back .now) (c .before .before .before .before .before .before .before .before .before .args .p .now) (c .before .before .before .before .before .before .before .before .before .args .u .now) (length (c .before .before .before .before .before .before .before .before .before .args .work .now)) (c .before .before .before .before .before .before .before .before .before .pre .1 .0) (c .before .before .before .before .if1 .left) (sym (c .before .before .head-at .ensures) ∙ c .enum-told .given .1))
 
--- src/lib.rt:50:1
 writes-same-length : (t : ℕ) → writes-lts.Need-same-length (
   head-at-reads.Asked,
   head-at-reads.Learnt,
@@ -828,7 +777,6 @@ writes-same-length : (t : ℕ) → writes-lts.Need-same-length (
 ) (writes-at t) writes.Post
 writes-same-length t c = search needs
 
--- src/lib.rt:50:1
 writes-same-length-2 : (t : ℕ) → writes-lts.Need-same-length-2 (
   head-at-reads.Asked,
   head-at-reads.Learnt,
@@ -839,7 +787,6 @@ writes-same-length-2 : (t : ℕ) → writes-lts.Need-same-length-2 (
 ) (writes-at t) writes.Post
 writes-same-length-2 t c = search needs
 
--- src/lib.rt:50:1
 writes-returns-3 : (t : ℕ) → writes-lts.Need-returns-3 (
   head-at-reads.Asked,
   head-at-reads.Learnt,

@@ -36,7 +36,6 @@ sizes-at t = and 6 sizes-kinds.ps (is 6 sizes-kinds.ps μ-sizes t) sizes.Pre
 abbrev sizes-below : ℕ → In 6 sizes-kinds.ps
 sizes-below t = and 6 sizes-kinds.ps (falls 6 sizes-kinds.ps _<_ μ-sizes t) sizes.Pre
 
--- src/lib.rt:22:11
 size-way-of-requires : (t : ℕ) → size-lts.Need-way-of-requires (
   way-of-reads.Asked,
   way-of-reads.Learnt,
@@ -47,7 +46,6 @@ size-way-of-requires : (t : ℕ) → size-lts.Need-way-of-requires (
 ) (size-at t) size.Post
 size-way-of-requires t c κs = c .before .before .before .before .pre .1
 
--- src/lib.rt:23:23
 size-enum-known-n : (t : ℕ) → size-lts.Need-enum-known-n (
   way-of-reads.Asked,
   way-of-reads.Learnt,
@@ -58,7 +56,6 @@ size-enum-known-n : (t : ℕ) → size-lts.Need-enum-known-n (
 ) (size-at t) size.Post
 size-enum-known-n t c = search needs
 
--- src/lib.rt:23:29
 size-add-result : (t : ℕ) → size-lts.Need-add-result (
   way-of-reads.Asked,
   way-of-reads.Learnt,
@@ -69,7 +66,6 @@ size-add-result : (t : ℕ) → size-lts.Need-add-result (
 ) (size-at t) size.Post
 size-add-result t c = let x = constant-size (c .before .before .before .before .before .before .before .before .before .before .args .s .now) (c .before .before .before .before .before .before .before .before .before .before .args .list .now) (c .before .before .before .before .before .before .before .before .before .before .args .tab .now) (c .before .before .before .before .before .before .before .before .before .before .args .back .now) (c .before .before .before .before .before .before .before .before .before .before .args .p .now) (c .before .before .before .before .before .before .before .before .before .before .args .u .now) (length (c .before .before .before .before .before .before .before .before .before .before .args .work .now)) (c .before .before .before .before .before .before .before .before .before .before .pre .1) (c .before .n .given .0 .0) _ (constant-way (c .before .before .before .before .before .before .before .before .before .before .args .s .now) (c .before .before .before .before .before .before .before .before .before .before .args .list .now) (c .before .before .before .before .before .before .before .before .before .before .args .tab .now) (c .before .before .before .before .before .before .before .before .before .before .args .back .now) (c .before .before .before .before .before .before .before .before .before .before .args .p .now) (c .before .before .before .before .before .before .before .before .before .before .args .u .now) (length (c .before .before .before .before .before .before .before .before .before .before .args .work .now)) (c .before .before .before .before .before .before .before .before .before .before .pre .1) (c .before .before .before .before .before .way-of .result) (c .before .before .before .before .before .way-of .last .1 .1 .1 .1 .1 .1 .0) (c .before .before .before .before .before .way-of .ensures) (c .before .n .given .0 .0) (c .before .n .given .1)) in let m = folded-few (c .before .before .before .before .before .before .before .before .before .before .args .s .now) (c .before .before .before .before .before .before .before .before .before .before .args .list .now) (c .before .before .before .before .before .before .before .before .before .before .args .tab .now) (c .before .before .before .before .before .before .before .before .before .before .args .back .now) (c .before .before .before .before .before .before .before .before .before .before .args .p .now) (c .before .before .before .before .before .before .before .before .before .before .args .u .now) (length (c .before .before .before .before .before .before .before .before .before .before .args .work .now)) (c .before .before .before .before .before .before .before .before .before .before .pre .1) (λ i. omega (arith, c .before .before .before .before .before .before .before .before .before .shared-slice-known .given i)) (λ i. omega (arith, c .before .before .before .before .before .before .before .before .shared-slice-known2 .given i)) in omega arith
 
--- src/lib.rt:24:19
 size-enum-known-a : (t : ℕ) → size-lts.Need-enum-known-a (
   way-of-reads.Asked,
   way-of-reads.Learnt,
@@ -80,7 +76,6 @@ size-enum-known-a : (t : ℕ) → size-lts.Need-enum-known-a (
 ) (size-at t) size.Post
 size-enum-known-a t c = search needs
 
--- src/lib.rt:25:21
 size-sub-q : (t : ℕ) → size-lts.Need-sub-q (
   way-of-reads.Asked,
   way-of-reads.Learnt,
@@ -91,7 +86,6 @@ size-sub-q : (t : ℕ) → size-lts.Need-sub-q (
 ) (size-at t) size.Post
 size-sub-q t c = let w = (side-way (c .before .before .before .before .before .before .before .before .before .before .args .s .now) (c .before .before .before .before .before .before .before .before .before .before .args .list .now) (c .before .before .before .before .before .before .before .before .before .before .args .tab .now) (c .before .before .before .before .before .before .before .before .before .before .args .back .now) (c .before .before .before .before .before .before .before .before .before .before .args .p .now) (c .before .before .before .before .before .before .before .before .before .before .args .u .now) (length (c .before .before .before .before .before .before .before .before .before .before .args .work .now)) (c .before .before .before .before .before .before .before .before .before .before .pre .1) (c .before .before .before .before .before .way-of .result) (c .before .before .before .before .before .way-of .last .1 .1 .1 .1 .1 .1 .0) (c .before .before .before .before .before .way-of .ensures) (c .before .a .given .0 .0) (c .before .a .given .0 .1 .0) (c .before .a .given .1)) .order in omega arith
 
--- src/lib.rt:25:21
 size-part-q-start : (t : ℕ) → size-lts.Need-part-q-start (
   way-of-reads.Asked,
   way-of-reads.Learnt,
@@ -102,7 +96,6 @@ size-part-q-start : (t : ℕ) → size-lts.Need-part-q-start (
 ) (size-at t) size.Post
 size-part-q-start t c = let w = (side-way (c .before .before .before .before .before .before .before .before .before .before .args .s .now) (c .before .before .before .before .before .before .before .before .before .before .args .list .now) (c .before .before .before .before .before .before .before .before .before .before .args .tab .now) (c .before .before .before .before .before .before .before .before .before .before .args .back .now) (c .before .before .before .before .before .before .before .before .before .before .args .p .now) (c .before .before .before .before .before .before .before .before .before .before .args .u .now) (length (c .before .before .before .before .before .before .before .before .before .before .args .work .now)) (c .before .before .before .before .before .before .before .before .before .before .pre .1) (c .before .before .before .before .before .way-of .result) (c .before .before .before .before .before .way-of .last .1 .1 .1 .1 .1 .1 .0) (c .before .before .before .before .before .way-of .ensures) (c .before .a .given .0 .0) (c .before .a .given .0 .1 .0) (c .before .a .given .1)) .order in omega arith
 
--- src/lib.rt:25:21
 size-part-q-end : (t : ℕ) → size-lts.Need-part-q-end (
   way-of-reads.Asked,
   way-of-reads.Learnt,
@@ -113,7 +106,6 @@ size-part-q-end : (t : ℕ) → size-lts.Need-part-q-end (
 ) (size-at t) size.Post
 size-part-q-end t c = let w = (side-way (c .before .before .before .before .before .before .before .before .before .before .args .s .now) (c .before .before .before .before .before .before .before .before .before .before .args .list .now) (c .before .before .before .before .before .before .before .before .before .before .args .tab .now) (c .before .before .before .before .before .before .before .before .before .before .args .back .now) (c .before .before .before .before .before .before .before .before .before .before .args .p .now) (c .before .before .before .before .before .before .before .before .before .before .args .u .now) (length (c .before .before .before .before .before .before .before .before .before .before .args .work .now)) (c .before .before .before .before .before .before .before .before .before .before .pre .1) (c .before .before .before .before .before .way-of .result) (c .before .before .before .before .before .way-of .last .1 .1 .1 .1 .1 .1 .0) (c .before .before .before .before .before .way-of .ensures) (c .before .a .given .0 .0) (c .before .a .given .0 .1 .0) (c .before .a .given .1)) .end in omega arith
 
--- src/lib.rt:26:13
 size-size-requires : (t : ℕ) → size-lts.Need-size-requires (
   way-of-reads.Asked,
   way-of-reads.Learnt,
@@ -124,7 +116,6 @@ size-size-requires : (t : ℕ) → size-lts.Need-size-requires (
 ) (size-at t) size.Post
 size-size-requires t c κs = let w = (side-way (c .before .before .before .before .before .before .before .before .before .before .before .before .args .s .now) (c .before .before .before .before .before .before .before .before .before .before .before .before .args .list .now) (c .before .before .before .before .before .before .before .before .before .before .before .before .args .tab .now) (c .before .before .before .before .before .before .before .before .before .before .before .before .args .back .now) (c .before .before .before .before .before .before .before .before .before .before .before .before .args .p .now) (c .before .before .before .before .before .before .before .before .before .before .before .before .args .u .now) (length (c .before .before .before .before .before .before .before .before .before .before .before .before .args .work .now)) (c .before .before .before .before .before .before .before .before .before .before .before .before .pre .1) (c .before .before .before .before .before .before .before .way-of .result) (c .before .before .before .before .before .before .before .way-of .last .1 .1 .1 .1 .1 .1 .0) (c .before .before .before .before .before .before .before .way-of .ensures) (c .before .before .before .a .given .0 .0) (c .before .before .before .a .given .0 .1 .0) (c .before .before .before .a .given .1)) in let x = w .start in let y = w .end in let z = w .order in let l1 = length-take ((c .before .before .before .a .given .0 .1 .0) - (c .before .before .before .a .given .0 .0)) (drop (c .before .before .before .a .given .0 .0) (c .before .before .before .before .before .before .before .before .before .before .before .before .args .s .now)) in let l2 = length-drop (c .before .before .before .a .given .0 .0) (c .before .before .before .before .before .before .before .before .before .before .before .before .args .s .now) in (omega (arith, c .before .before .before .before .before .before .before .before .before .before .before .before .pre .0), side-ready (c .before .before .before .before .before .before .before .before .before .before .before .before .args .s .now) (c .before .before .before .before .before .before .before .before .before .before .before .before .args .list .now) (c .before .before .before .before .before .before .before .before .before .before .before .before .args .tab .now) (c .before .before .before .before .before .before .before .before .before .before .before .before .args .back .now) (c .before .before .before .before .before .before .before .before .before .before .before .before .args .p .now) (c .before .before .before .before .before .before .before .before .before .before .before .before .args .u .now) (length (c .before .before .before .before .before .before .before .before .before .before .before .before .args .work .now)) (c .before .before .before .before .before .before .before .before .before .before .before .before .pre .1) (c .before .before .before .a .given .0 .0) (c .before .before .before .a .given .0 .1 .0) w _ (omega (arith, c .before .before .before .before .before .before .before .way-of .kept .1 .1 .1 .1 .1 .1 .0)))
 
--- src/lib.rt:28:19
 size-enum-known-e : (t : ℕ) → size-lts.Need-enum-known-e (
   way-of-reads.Asked,
   way-of-reads.Learnt,
@@ -135,7 +126,6 @@ size-enum-known-e : (t : ℕ) → size-lts.Need-enum-known-e (
 ) (size-at t) size.Post
 size-enum-known-e t c = search needs
 
--- src/lib.rt:29:19
 size-enum-known-k : (t : ℕ) → size-lts.Need-enum-known-k (
   way-of-reads.Asked,
   way-of-reads.Learnt,
@@ -146,7 +136,6 @@ size-enum-known-k : (t : ℕ) → size-lts.Need-enum-known-k (
 ) (size-at t) size.Post
 size-enum-known-k t c = search needs
 
--- src/lib.rt:30:21
 size-sub-q-2 : (t : ℕ) → size-lts.Need-sub-q-2 (
   way-of-reads.Asked,
   way-of-reads.Learnt,
@@ -157,7 +146,6 @@ size-sub-q-2 : (t : ℕ) → size-lts.Need-sub-q-2 (
 ) (size-at t) size.Post
 size-sub-q-2 t c = let w = (call-way (c .before .before .before .before .before .before .before .before .before .before .args .s .now) (c .before .before .before .before .before .before .before .before .before .before .args .list .now) (c .before .before .before .before .before .before .before .before .before .before .args .tab .now) (c .before .before .before .before .before .before .before .before .before .before .args .back .now) (c .before .before .before .before .before .before .before .before .before .before .args .p .now) (c .before .before .before .before .before .before .before .before .before .before .args .u .now) (length (c .before .before .before .before .before .before .before .before .before .before .args .work .now)) (c .before .before .before .before .before .before .before .before .before .before .pre .1) (c .before .before .before .before .before .way-of .result) (c .before .before .before .before .before .way-of .last .1 .1 .1 .1 .1 .1 .0) (c .before .before .before .before .before .way-of .ensures) (c .before .k .given .0 .0) (c .before .k .given .0 .1 .0) (c .before .k .given .0 .1 .1 .0) (c .before .k .given .1)) .start in omega arith
 
--- src/lib.rt:30:21
 size-part-q-start-2 : (t : ℕ) → size-lts.Need-part-q-start-2 (
   way-of-reads.Asked,
   way-of-reads.Learnt,
@@ -168,7 +156,6 @@ size-part-q-start-2 : (t : ℕ) → size-lts.Need-part-q-start-2 (
 ) (size-at t) size.Post
 size-part-q-start-2 t c = let w = (call-way (c .before .before .before .before .before .before .before .before .before .before .args .s .now) (c .before .before .before .before .before .before .before .before .before .before .args .list .now) (c .before .before .before .before .before .before .before .before .before .before .args .tab .now) (c .before .before .before .before .before .before .before .before .before .before .args .back .now) (c .before .before .before .before .before .before .before .before .before .before .args .p .now) (c .before .before .before .before .before .before .before .before .before .before .args .u .now) (length (c .before .before .before .before .before .before .before .before .before .before .args .work .now)) (c .before .before .before .before .before .before .before .before .before .before .pre .1) (c .before .before .before .before .before .way-of .result) (c .before .before .before .before .before .way-of .last .1 .1 .1 .1 .1 .1 .0) (c .before .before .before .before .before .way-of .ensures) (c .before .k .given .0 .0) (c .before .k .given .0 .1 .0) (c .before .k .given .0 .1 .1 .0) (c .before .k .given .1)) .start in omega arith
 
--- src/lib.rt:30:21
 size-part-q-end-2 : (t : ℕ) → size-lts.Need-part-q-end-2 (
   way-of-reads.Asked,
   way-of-reads.Learnt,
@@ -179,7 +166,6 @@ size-part-q-end-2 : (t : ℕ) → size-lts.Need-part-q-end-2 (
 ) (size-at t) size.Post
 size-part-q-end-2 t c = let w = (call-way (c .before .before .before .before .before .before .before .before .before .before .args .s .now) (c .before .before .before .before .before .before .before .before .before .before .args .list .now) (c .before .before .before .before .before .before .before .before .before .before .args .tab .now) (c .before .before .before .before .before .before .before .before .before .before .args .back .now) (c .before .before .before .before .before .before .before .before .before .before .args .p .now) (c .before .before .before .before .before .before .before .before .before .before .args .u .now) (length (c .before .before .before .before .before .before .before .before .before .before .args .work .now)) (c .before .before .before .before .before .before .before .before .before .before .pre .1) (c .before .before .before .before .before .way-of .result) (c .before .before .before .before .before .way-of .last .1 .1 .1 .1 .1 .1 .0) (c .before .before .before .before .before .way-of .ensures) (c .before .k .given .0 .0) (c .before .k .given .0 .1 .0) (c .before .k .given .0 .1 .1 .0) (c .before .k .given .1)) .end in omega arith
 
--- src/lib.rt:31:17
 size-sizes-requires : (t : ℕ) → size-lts.Need-sizes-requires (
   way-of-reads.Asked,
   way-of-reads.Learnt,
@@ -190,7 +176,6 @@ size-sizes-requires : (t : ℕ) → size-lts.Need-sizes-requires (
 ) (size-at t) size.Post
 size-sizes-requires t c κs = let w = (call-way (c .before .before .before .before .before .before .before .before .before .before .before .before .args .s .now) (c .before .before .before .before .before .before .before .before .before .before .before .before .args .list .now) (c .before .before .before .before .before .before .before .before .before .before .before .before .args .tab .now) (c .before .before .before .before .before .before .before .before .before .before .before .before .args .back .now) (c .before .before .before .before .before .before .before .before .before .before .before .before .args .p .now) (c .before .before .before .before .before .before .before .before .before .before .before .before .args .u .now) (length (c .before .before .before .before .before .before .before .before .before .before .before .before .args .work .now)) (c .before .before .before .before .before .before .before .before .before .before .before .before .pre .1) (c .before .before .before .before .before .before .before .way-of .result) (c .before .before .before .before .before .before .before .way-of .last .1 .1 .1 .1 .1 .1 .0) (c .before .before .before .before .before .before .before .way-of .ensures) (c .before .before .before .k .given .0 .0) (c .before .before .before .k .given .0 .1 .0) (c .before .before .before .k .given .0 .1 .1 .0) (c .before .before .before .k .given .1)) in let x = w .start in let y = w .end in let z = w .few in let l1 = length-take ((c .before .before .before .k .given .0 .1 .1 .0) - 4) (drop 4 (c .before .before .before .before .before .before .before .before .before .before .before .before .args .s .now)) in let l2 = length-drop 4 (c .before .before .before .before .before .before .before .before .before .before .before .before .args .s .now) in (omega (arith, c .before .before .before .before .before .before .before .before .before .before .before .before .pre .0), call-ready (c .before .before .before .before .before .before .before .before .before .before .before .before .args .s .now) (c .before .before .before .before .before .before .before .before .before .before .before .before .args .list .now) (c .before .before .before .before .before .before .before .before .before .before .before .before .args .tab .now) (c .before .before .before .before .before .before .before .before .before .before .before .before .args .back .now) (c .before .before .before .before .before .before .before .before .before .before .before .before .args .p .now) (c .before .before .before .before .before .before .before .before .before .before .before .before .args .u .now) (length (c .before .before .before .before .before .before .before .before .before .before .before .before .args .work .now)) (c .before .before .before .before .before .before .before .before .before .before .before .before .pre .1) (c .before .before .before .k .given .0 .0) (c .before .before .before .k .given .0 .1 .0) (c .before .before .before .k .given .0 .1 .1 .0) w _ (omega (arith, c .before .before .before .before .before .before .before .way-of .kept .1 .1 .1 .1 .1 .1 .0)))
 
--- src/lib.rt:31:13
 size-add-result-2 : (t : ℕ) → size-lts.Need-add-result-2 (
   way-of-reads.Asked,
   way-of-reads.Learnt,
@@ -201,7 +186,6 @@ size-add-result-2 : (t : ℕ) → size-lts.Need-add-result-2 (
 ) (size-at t) size.Post
 size-add-result-2 t c = let x = call-size (c .before .before .before .before .before .before .before .before .before .before .before .before .before .before .before .args .s .now) (c .before .before .before .before .before .before .before .before .before .before .before .before .before .before .before .args .list .now) (c .before .before .before .before .before .before .before .before .before .before .before .before .before .before .before .args .tab .now) (c .before .before .before .before .before .before .before .before .before .before .before .before .before .before .before .args .back .now) (c .before .before .before .before .before .before .before .before .before .before .before .before .before .before .before .args .p .now) (c .before .before .before .before .before .before .before .before .before .before .before .before .before .before .before .args .u .now) (length (c .before .before .before .before .before .before .before .before .before .before .before .before .before .before .before .args .work .now)) (c .before .before .before .before .before .before .before .before .before .before .before .before .before .before .before .pre .1) (c .before .before .before .before .before .before .k .given .0 .0) (c .before .before .before .before .before .before .k .given .0 .1 .0) (c .before .before .before .before .before .before .k .given .0 .1 .1 .0) (call-way (c .before .before .before .before .before .before .before .before .before .before .before .before .before .before .before .args .s .now) (c .before .before .before .before .before .before .before .before .before .before .before .before .before .before .before .args .list .now) (c .before .before .before .before .before .before .before .before .before .before .before .before .before .before .before .args .tab .now) (c .before .before .before .before .before .before .before .before .before .before .before .before .before .before .before .args .back .now) (c .before .before .before .before .before .before .before .before .before .before .before .before .before .before .before .args .p .now) (c .before .before .before .before .before .before .before .before .before .before .before .before .before .before .before .args .u .now) (length (c .before .before .before .before .before .before .before .before .before .before .before .before .before .before .before .args .work .now)) (c .before .before .before .before .before .before .before .before .before .before .before .before .before .before .before .pre .1) (c .before .before .before .before .before .before .before .before .before .before .way-of .result) (c .before .before .before .before .before .before .before .before .before .before .way-of .last .1 .1 .1 .1 .1 .1 .0) (c .before .before .before .before .before .before .before .before .before .before .way-of .ensures) (c .before .before .before .before .before .before .k .given .0 .0) (c .before .before .before .before .before .before .k .given .0 .1 .0) (c .before .before .before .before .before .before .k .given .0 .1 .1 .0) (c .before .before .before .before .before .before .k .given .1)) (c .before .before .sizes .result) (c .before .before .sizes .ensures) in let m = folded-few (c .before .before .before .before .before .before .before .before .before .before .before .before .before .before .before .args .s .now) (c .before .before .before .before .before .before .before .before .before .before .before .before .before .before .before .args .list .now) (c .before .before .before .before .before .before .before .before .before .before .before .before .before .before .before .args .tab .now) (c .before .before .before .before .before .before .before .before .before .before .before .before .before .before .before .args .back .now) (c .before .before .before .before .before .before .before .before .before .before .before .before .before .before .before .args .p .now) (c .before .before .before .before .before .before .before .before .before .before .before .before .before .before .before .args .u .now) (length (c .before .before .before .before .before .before .before .before .before .before .before .before .before .before .before .args .work .now)) (c .before .before .before .before .before .before .before .before .before .before .before .before .before .before .before .pre .1) (λ i. omega (arith, c .before .before .before .before .before .before .before .before .before .before .before .before .before .before .shared-slice-known .given i)) (λ i. omega (arith, c .before .before .before .before .before .before .before .before .before .before .before .before .before .shared-slice-known2 .given i)) in omega arith
 
--- src/lib.rt:10:1
 size-same-length : (t : ℕ) → size-lts.Need-same-length (
   way-of-reads.Asked,
   way-of-reads.Learnt,
@@ -212,7 +196,6 @@ size-same-length : (t : ℕ) → size-lts.Need-same-length (
 ) (size-at t) size.Post
 size-same-length t c = search needs
 
--- src/lib.rt:10:1
 size-returns : (t : ℕ) → size-lts.Need-returns (
   way-of-reads.Asked,
   way-of-reads.Learnt,
@@ -223,7 +206,6 @@ size-returns : (t : ℕ) → size-lts.Need-returns (
 ) (size-at t) size.Post
 size-returns t c = constant-size (c .before .before .before .before .before .before .before .before .before .before .args .s .now) (c .before .before .before .before .before .before .before .before .before .before .args .list .now) (c .before .before .before .before .before .before .before .before .before .before .args .tab .now) (c .before .before .before .before .before .before .before .before .before .before .args .back .now) (c .before .before .before .before .before .before .before .before .before .before .args .p .now) (c .before .before .before .before .before .before .before .before .before .before .args .u .now) (length (c .before .before .before .before .before .before .before .before .before .before .args .work .now)) (c .before .before .before .before .before .before .before .before .before .before .pre .1) (c .before .n .given .0 .0) _ (constant-way (c .before .before .before .before .before .before .before .before .before .before .args .s .now) (c .before .before .before .before .before .before .before .before .before .before .args .list .now) (c .before .before .before .before .before .before .before .before .before .before .args .tab .now) (c .before .before .before .before .before .before .before .before .before .before .args .back .now) (c .before .before .before .before .before .before .before .before .before .before .args .p .now) (c .before .before .before .before .before .before .before .before .before .before .args .u .now) (length (c .before .before .before .before .before .before .before .before .before .before .args .work .now)) (c .before .before .before .before .before .before .before .before .before .before .pre .1) (c .before .before .before .before .before .way-of .result) (c .before .before .before .before .before .way-of .last .1 .1 .1 .1 .1 .1 .0) (c .before .before .before .before .before .way-of .ensures) (c .before .n .given .0 .0) (c .before .n .given .1))
 
--- src/lib.rt:10:1
 size-same-length-2 : (t : ℕ) → size-lts.Need-same-length-2 (
   way-of-reads.Asked,
   way-of-reads.Learnt,
@@ -234,7 +216,6 @@ size-same-length-2 : (t : ℕ) → size-lts.Need-same-length-2 (
 ) (size-at t) size.Post
 size-same-length-2 t c = search needs
 
--- src/lib.rt:10:1
 size-returns-2 : (t : ℕ) → size-lts.Need-returns-2 (
   way-of-reads.Asked,
   way-of-reads.Learnt,
@@ -245,7 +226,6 @@ size-returns-2 : (t : ℕ) → size-lts.Need-returns-2 (
 ) (size-at t) size.Post
 size-returns-2 t c = c .before .before .size .ensures ∙ ap length (side-folded (c .before .before .before .before .before .before .before .before .before .before .before .before .before .before .before .args .s .now) (c .before .before .before .before .before .before .before .before .before .before .before .before .before .before .before .args .list .now) (c .before .before .before .before .before .before .before .before .before .before .before .before .before .before .before .args .tab .now) (c .before .before .before .before .before .before .before .before .before .before .before .before .before .before .before .args .back .now) (c .before .before .before .before .before .before .before .before .before .before .before .before .before .before .before .args .p .now) (c .before .before .before .before .before .before .before .before .before .before .before .before .before .before .before .args .u .now) (length (c .before .before .before .before .before .before .before .before .before .before .before .before .before .before .before .args .work .now)) (c .before .before .before .before .before .before .before .before .before .before .before .before .before .before .before .pre .1) (c .before .before .before .before .before .before .a .given .0 .0) (c .before .before .before .before .before .before .a .given .0 .1 .0) (side-way (c .before .before .before .before .before .before .before .before .before .before .before .before .before .before .before .args .s .now) (c .before .before .before .before .before .before .before .before .before .before .before .before .before .before .before .args .list .now) (c .before .before .before .before .before .before .before .before .before .before .before .before .before .before .before .args .tab .now) (c .before .before .before .before .before .before .before .before .before .before .before .before .before .before .before .args .back .now) (c .before .before .before .before .before .before .before .before .before .before .before .before .before .before .before .args .p .now) (c .before .before .before .before .before .before .before .before .before .before .before .before .before .before .before .args .u .now) (length (c .before .before .before .before .before .before .before .before .before .before .before .before .before .before .before .args .work .now)) (c .before .before .before .before .before .before .before .before .before .before .before .before .before .before .before .pre .1) (c .before .before .before .before .before .before .before .before .before .before .way-of .result) (c .before .before .before .before .before .before .before .before .before .before .way-of .last .1 .1 .1 .1 .1 .1 .0) (c .before .before .before .before .before .before .before .before .before .before .way-of .ensures) (c .before .before .before .before .before .before .a .given .0 .0) (c .before .before .before .before .before .before .a .given .0 .1 .0) (c .before .before .before .before .before .before .a .given .1)))
 
--- src/lib.rt:10:1
 size-same-length-3 : (t : ℕ) → size-lts.Need-same-length-3 (
   way-of-reads.Asked,
   way-of-reads.Learnt,
@@ -256,7 +236,6 @@ size-same-length-3 : (t : ℕ) → size-lts.Need-same-length-3 (
 ) (size-at t) size.Post
 size-same-length-3 t c = search needs
 
--- src/lib.rt:10:1
 size-returns-3 : (t : ℕ) → size-lts.Need-returns-3 (
   way-of-reads.Asked,
   way-of-reads.Learnt,
@@ -267,7 +246,6 @@ size-returns-3 : (t : ℕ) → size-lts.Need-returns-3 (
 ) (size-at t) size.Post
 size-returns-3 t c = leaf-size (c .before .before .before .before .before .before .before .before .before .before .args .s .now) (c .before .before .before .before .before .before .before .before .before .before .args .list .now) (c .before .before .before .before .before .before .before .before .before .before .args .tab .now) (c .before .before .before .before .before .before .before .before .before .before .args .back .now) (c .before .before .before .before .before .before .before .before .before .before .args .p .now) (c .before .before .before .before .before .before .before .before .before .before .args .u .now) (length (c .before .before .before .before .before .before .before .before .before .before .args .work .now)) (c .before .before .before .before .before .before .before .before .before .before .pre .1) (c .before .e .given .0 .0) (leaf-way (c .before .before .before .before .before .before .before .before .before .before .args .s .now) (c .before .before .before .before .before .before .before .before .before .before .args .list .now) (c .before .before .before .before .before .before .before .before .before .before .args .tab .now) (c .before .before .before .before .before .before .before .before .before .before .args .back .now) (c .before .before .before .before .before .before .before .before .before .before .args .p .now) (c .before .before .before .before .before .before .before .before .before .before .args .u .now) (length (c .before .before .before .before .before .before .before .before .before .before .args .work .now)) (c .before .before .before .before .before .before .before .before .before .before .pre .1) (c .before .before .before .before .before .way-of .result) (c .before .before .before .before .before .way-of .last .1 .1 .1 .1 .1 .1 .0) (c .before .before .before .before .before .way-of .ensures) (c .before .e .given .0 .0) (c .before .e .given .1))
 
--- src/lib.rt:10:1
 size-same-length-4 : (t : ℕ) → size-lts.Need-same-length-4 (
   way-of-reads.Asked,
   way-of-reads.Learnt,
@@ -278,7 +256,6 @@ size-same-length-4 : (t : ℕ) → size-lts.Need-same-length-4 (
 ) (size-at t) size.Post
 size-same-length-4 t c = search needs
 
--- src/lib.rt:10:1
 size-returns-4 : (t : ℕ) → size-lts.Need-returns-4 (
   way-of-reads.Asked,
   way-of-reads.Learnt,
@@ -289,7 +266,6 @@ size-returns-4 : (t : ℕ) → size-lts.Need-returns-4 (
 ) (size-at t) size.Post
 size-returns-4 t c = call-size (c .before .before .before .before .before .before .before .before .before .before .before .before .before .before .before .args .s .now) (c .before .before .before .before .before .before .before .before .before .before .before .before .before .before .before .args .list .now) (c .before .before .before .before .before .before .before .before .before .before .before .before .before .before .before .args .tab .now) (c .before .before .before .before .before .before .before .before .before .before .before .before .before .before .before .args .back .now) (c .before .before .before .before .before .before .before .before .before .before .before .before .before .before .before .args .p .now) (c .before .before .before .before .before .before .before .before .before .before .before .before .before .before .before .args .u .now) (length (c .before .before .before .before .before .before .before .before .before .before .before .before .before .before .before .args .work .now)) (c .before .before .before .before .before .before .before .before .before .before .before .before .before .before .before .pre .1) (c .before .before .before .before .before .before .k .given .0 .0) (c .before .before .before .before .before .before .k .given .0 .1 .0) (c .before .before .before .before .before .before .k .given .0 .1 .1 .0) (call-way (c .before .before .before .before .before .before .before .before .before .before .before .before .before .before .before .args .s .now) (c .before .before .before .before .before .before .before .before .before .before .before .before .before .before .before .args .list .now) (c .before .before .before .before .before .before .before .before .before .before .before .before .before .before .before .args .tab .now) (c .before .before .before .before .before .before .before .before .before .before .before .before .before .before .before .args .back .now) (c .before .before .before .before .before .before .before .before .before .before .before .before .before .before .before .args .p .now) (c .before .before .before .before .before .before .before .before .before .before .before .before .before .before .before .args .u .now) (length (c .before .before .before .before .before .before .before .before .before .before .before .before .before .before .before .args .work .now)) (c .before .before .before .before .before .before .before .before .before .before .before .before .before .before .before .pre .1) (c .before .before .before .before .before .before .before .before .before .before .way-of .result) (c .before .before .before .before .before .before .before .before .before .before .way-of .last .1 .1 .1 .1 .1 .1 .0) (c .before .before .before .before .before .before .before .before .before .before .way-of .ensures) (c .before .before .before .before .before .before .k .given .0 .0) (c .before .before .before .before .before .before .k .given .0 .1 .0) (c .before .before .before .before .before .before .k .given .0 .1 .1 .0) (c .before .before .before .before .before .before .k .given .1)) (c .before .before .sizes .result) (c .before .before .sizes .ensures)
 
--- src/lib.rt:52:9
 sizes-returns : (t : ℕ) → sizes-lts.Need-returns (
   head-at-reads.Asked,
   head-at-reads.Learnt,
@@ -300,7 +276,6 @@ sizes-returns : (t : ℕ) → sizes-lts.Need-returns (
 ) (sizes-at t) sizes.Post
 sizes-returns t c = none-left (c .before .before .before .before .args .left) (c .before .before .before .before .args .at) (c .before .before .before .before .args .s .now) (c .before .before .before .before .args .list .now) (c .before .before .before .before .args .tab .now) (c .before .before .before .before .args .back .now) (c .before .before .before .before .args .p .now) (c .before .before .before .before .args .u .now) (length (c .before .before .before .before .args .work .now)) (c .before .before .before .before .pre .1) (c .if1 .taken)
 
--- src/lib.rt:54:13
 sizes-sub-q : (t : ℕ) → sizes-lts.Need-sub-q (
   head-at-reads.Asked,
   head-at-reads.Learnt,
@@ -311,7 +286,6 @@ sizes-sub-q : (t : ℕ) → sizes-lts.Need-sub-q (
 ) (sizes-at t) sizes.Post
 sizes-sub-q t c = let w = (c .before .before .before .before .pre .1) .within in omega arith
 
--- src/lib.rt:54:13
 sizes-part-q-start : (t : ℕ) → sizes-lts.Need-part-q-start (
   head-at-reads.Asked,
   head-at-reads.Learnt,
@@ -322,7 +296,6 @@ sizes-part-q-start : (t : ℕ) → sizes-lts.Need-part-q-start (
 ) (sizes-at t) sizes.Post
 sizes-part-q-start t c = let w = (c .before .before .before .before .pre .1) .within in omega arith
 
--- src/lib.rt:54:13
 sizes-part-q-end : (t : ℕ) → sizes-lts.Need-part-q-end (
   head-at-reads.Asked,
   head-at-reads.Learnt,
@@ -333,7 +306,6 @@ sizes-part-q-end : (t : ℕ) → sizes-lts.Need-part-q-end (
 ) (sizes-at t) sizes.Post
 sizes-part-q-end t c = let w = (c .before .before .before .before .pre .1) .within in omega arith
 
--- src/lib.rt:55:11
 sizes-head-at-requires : (t : ℕ) → sizes-lts.Need-head-at-requires (
   head-at-reads.Asked,
   head-at-reads.Learnt,
@@ -344,7 +316,6 @@ sizes-head-at-requires : (t : ℕ) → sizes-lts.Need-head-at-requires (
 ) (sizes-at t) sizes.Post
 sizes-head-at-requires t c κs = search needs
 
--- src/lib.rt:56:22
 sizes-enum-told : (t : ℕ) → sizes-lts.Need-enum-told (
   head-at-reads.Asked,
   head-at-reads.Learnt,
@@ -355,7 +326,6 @@ sizes-enum-told : (t : ℕ) → sizes-lts.Need-enum-told (
 ) (sizes-at t) sizes.Post
 sizes-enum-told t c = search needs
 
--- src/lib.rt:57:22
 sizes-enum-known-k : (t : ℕ) → sizes-lts.Need-enum-known-k (
   head-at-reads.Asked,
   head-at-reads.Learnt,
@@ -366,7 +336,6 @@ sizes-enum-known-k : (t : ℕ) → sizes-lts.Need-enum-known-k (
 ) (sizes-at t) sizes.Post
 sizes-enum-known-k t c = search needs
 
--- src/lib.rt:58:17
 sizes-size-requires : (t : ℕ) → sizes-lts.Need-size-requires (
   head-at-reads.Asked,
   head-at-reads.Learnt,
@@ -377,7 +346,6 @@ sizes-size-requires : (t : ℕ) → sizes-lts.Need-size-requires (
 ) (sizes-at t) sizes.Post
 sizes-size-requires t c κs = let l1 = length-take (length (c .before .before .before .before .before .before .before .before .before .before .args .s .now) - (c .before .before .before .before .before .before .before .before .before .before .args .at)) (drop (c .before .before .before .before .before .before .before .before .before .before .args .at) (c .before .before .before .before .before .before .before .before .before .before .args .s .now)) in let l2 = length-drop (c .before .before .before .before .before .before .before .before .before .before .args .at) (c .before .before .before .before .before .before .before .before .before .before .args .s .now) in (omega (arith, c .before .before .before .before .before .before .before .before .before .before .pre .0), part-ready (c .before .before .before .before .before .before .before .before .before .before .args .left) (c .before .before .before .before .before .before .before .before .before .before .args .at) (c .before .before .before .before .before .before .before .before .before .before .args .s .now) (c .before .before .before .before .before .before .before .before .before .before .args .list .now) (c .before .before .before .before .before .before .before .before .before .before .args .tab .now) (c .before .before .before .before .before .before .before .before .before .before .args .back .now) (c .before .before .before .before .before .before .before .before .before .before .args .p .now) (c .before .before .before .before .before .before .before .before .before .before .args .u .now) (length (c .before .before .before .before .before .before .before .before .before .before .args .work .now)) (c .before .before .before .before .before .before .before .before .before .before .pre .1) (c .before .before .before .before .before .before .if1 .left) _ (omega arith))
 
--- src/lib.rt:59:49
 sizes-sub-sizes : (t : ℕ) → sizes-lts.Need-sub-sizes (
   head-at-reads.Asked,
   head-at-reads.Learnt,
@@ -388,7 +356,6 @@ sizes-sub-sizes : (t : ℕ) → sizes-lts.Need-sub-sizes (
 ) (sizes-at t) sizes.Post
 sizes-sub-sizes t c = search needs
 
--- src/lib.rt:59:59
 sizes-add-sizes : (t : ℕ) → sizes-lts.Need-add-sizes (
   head-at-reads.Asked,
   head-at-reads.Learnt,
@@ -399,7 +366,6 @@ sizes-add-sizes : (t : ℕ) → sizes-lts.Need-add-sizes (
 ) (sizes-at t) sizes.Post
 sizes-add-sizes t c = let w = next-within (c .before .before .before .before .before .before .before .before .before .before .before .before .before .args .left) (c .before .before .before .before .before .before .before .before .before .before .before .before .before .args .at) (c .before .before .before .before .before .before .before .before .before .before .before .before .before .args .s .now) (c .before .before .before .before .before .before .before .before .before .before .before .before .before .args .list .now) (c .before .before .before .before .before .before .before .before .before .before .before .before .before .args .tab .now) (c .before .before .before .before .before .before .before .before .before .before .before .before .before .args .back .now) (c .before .before .before .before .before .before .before .before .before .before .before .before .before .args .p .now) (c .before .before .before .before .before .before .before .before .before .before .before .before .before .args .u .now) (length (c .before .before .before .before .before .before .before .before .before .before .before .before .before .args .work .now)) (c .before .before .before .before .before .before .before .before .before .before .before .before .before .pre .1) (c .before .before .before .before .before .before .before .before .before .if1 .left) (c .before .before .before .before .before .k .given .0 .0) (c .before .before .before .before .before .k .given .0 .1 .0) (sym (c .before .before .before .before .before .before .before .head-at .ensures) ∙ c .before .before .before .before .before .k .given .1) (λ i. omega (arith, c .before .before .before .before .before .before .before .before .before .before .before .before .shared-slice-known .given i)) in omega (arith, c .before .before .before .before .before .before .before .before .before .before .before .before .before .good)
 
--- src/lib.rt:59:59
 sizes-add-sizes-2 : (t : ℕ) → sizes-lts.Need-add-sizes-2 (
   head-at-reads.Asked,
   head-at-reads.Learnt,
@@ -410,7 +376,6 @@ sizes-add-sizes-2 : (t : ℕ) → sizes-lts.Need-add-sizes-2 (
 ) (sizes-at t) sizes.Post
 sizes-add-sizes-2 t c = let w = next-within (c .before .before .before .before .before .before .before .before .before .before .before .before .before .args .left) (c .before .before .before .before .before .before .before .before .before .before .before .before .before .args .at) (c .before .before .before .before .before .before .before .before .before .before .before .before .before .args .s .now) (c .before .before .before .before .before .before .before .before .before .before .before .before .before .args .list .now) (c .before .before .before .before .before .before .before .before .before .before .before .before .before .args .tab .now) (c .before .before .before .before .before .before .before .before .before .before .before .before .before .args .back .now) (c .before .before .before .before .before .before .before .before .before .before .before .before .before .args .p .now) (c .before .before .before .before .before .before .before .before .before .before .before .before .before .args .u .now) (length (c .before .before .before .before .before .before .before .before .before .before .before .before .before .args .work .now)) (c .before .before .before .before .before .before .before .before .before .before .before .before .before .pre .1) (c .before .before .before .before .before .before .before .before .before .if1 .left) (c .before .before .before .before .before .k .given .0 .0) (c .before .before .before .before .before .k .given .0 .1 .0) (sym (c .before .before .before .before .before .before .before .head-at .ensures) ∙ c .before .before .before .before .before .k .given .1) (λ i. omega (arith, c .before .before .before .before .before .before .before .before .before .before .before .before .shared-slice-known .given i)) in omega (arith, c .before .before .before .before .before .before .before .before .before .before .before .before .before .good)
 
--- src/lib.rt:59:17
 sizes-sizes-requires : (t : ℕ) → sizes-lts.Need-sizes-requires (
   head-at-reads.Asked,
   head-at-reads.Learnt,
@@ -421,7 +386,6 @@ sizes-sizes-requires : (t : ℕ) → sizes-lts.Need-sizes-requires (
 ) (sizes-at t) sizes.Post
 sizes-sizes-requires t c κs = (omega (arith, c .before .before .before .before .before .before .before .before .before .before .before .before .before .before .pre .0, c .before .before .before .before .before .before .before .before .before .before .if1 .left), rest-ready (c .before .before .before .before .before .before .before .before .before .before .before .before .before .before .args .left) (c .before .before .before .before .before .before .before .before .before .before .before .before .before .before .args .at) (c .before .before .before .before .before .before .before .before .before .before .before .before .before .before .args .s .now) (c .before .before .before .before .before .before .before .before .before .before .before .before .before .before .args .list .now) (c .before .before .before .before .before .before .before .before .before .before .before .before .before .before .args .tab .now) (c .before .before .before .before .before .before .before .before .before .before .before .before .before .before .args .back .now) (c .before .before .before .before .before .before .before .before .before .before .before .before .before .before .args .p .now) (c .before .before .before .before .before .before .before .before .before .before .before .before .before .before .args .u .now) (length (c .before .before .before .before .before .before .before .before .before .before .before .before .before .before .args .work .now)) (c .before .before .before .before .before .before .before .before .before .before .before .before .before .before .pre .1) (c .before .before .before .before .before .before .before .before .before .before .if1 .left) (c .before .before .before .before .before .before .k .given .0 .0) (c .before .before .before .before .before .before .k .given .0 .1 .0) (sym (c .before .before .before .before .before .before .before .before .head-at .ensures) ∙ c .before .before .before .before .before .before .k .given .1) _ (omega (arith, c .before .before .before .size .kept .1 .1 .1 .1 .1 .1 .0)) (λ i. omega (arith, c .before .before .before .before .before .before .before .before .before .before .before .before .before .shared-slice-known .given i)))
 
--- src/lib.rt:59:13
 sizes-add-result : (t : ℕ) → sizes-lts.Need-add-result (
   head-at-reads.Asked,
   head-at-reads.Learnt,
@@ -432,7 +396,6 @@ sizes-add-result : (t : ℕ) → sizes-lts.Need-add-result (
 ) (sizes-at t) sizes.Post
 sizes-add-result t c = let x = past-size (c .before .before .before .before .before .before .before .before .before .before .before .before .before .before .before .before .before .args .left) (c .before .before .before .before .before .before .before .before .before .before .before .before .before .before .before .before .before .args .at) (c .before .before .before .before .before .before .before .before .before .before .before .before .before .before .before .before .before .args .s .now) (c .before .before .before .before .before .before .before .before .before .before .before .before .before .before .before .before .before .args .list .now) (c .before .before .before .before .before .before .before .before .before .before .before .before .before .before .before .before .before .args .tab .now) (c .before .before .before .before .before .before .before .before .before .before .before .before .before .before .before .before .before .args .back .now) (c .before .before .before .before .before .before .before .before .before .before .before .before .before .before .before .before .before .args .p .now) (c .before .before .before .before .before .before .before .before .before .before .before .before .before .before .before .before .before .args .u .now) (length (c .before .before .before .before .before .before .before .before .before .before .before .before .before .before .before .before .before .args .work .now)) (c .before .before .before .before .before .before .before .before .before .before .before .before .before .before .before .before .before .pre .1) (c .before .before .before .before .before .before .before .before .before .before .before .before .before .if1 .left) (c .before .before .before .before .before .before .before .before .before .k .given .0 .0) (c .before .before .before .before .before .before .before .before .before .k .given .0 .1 .0) (sym (c .before .before .before .before .before .before .before .before .before .before .before .head-at .ensures) ∙ c .before .before .before .before .before .before .before .before .before .k .given .1) (c .before .before .before .before .before .before .size .result) (c .before .before .sizes .result) (c .before .before .before .before .before .before .size .ensures) (c .before .before .sizes .ensures) in let m = past-few (c .before .before .before .before .before .before .before .before .before .before .before .before .before .before .before .before .before .args .left) (c .before .before .before .before .before .before .before .before .before .before .before .before .before .before .before .before .before .args .at) (c .before .before .before .before .before .before .before .before .before .before .before .before .before .before .before .before .before .args .s .now) (c .before .before .before .before .before .before .before .before .before .before .before .before .before .before .before .before .before .args .list .now) (c .before .before .before .before .before .before .before .before .before .before .before .before .before .before .before .before .before .args .tab .now) (c .before .before .before .before .before .before .before .before .before .before .before .before .before .before .before .before .before .args .back .now) (c .before .before .before .before .before .before .before .before .before .before .before .before .before .before .before .before .before .args .p .now) (c .before .before .before .before .before .before .before .before .before .before .before .before .before .before .before .before .before .args .u .now) (length (c .before .before .before .before .before .before .before .before .before .before .before .before .before .before .before .before .before .args .work .now)) (c .before .before .before .before .before .before .before .before .before .before .before .before .before .before .before .before .before .pre .1) (λ i. omega (arith, c .before .before .before .before .before .before .before .before .before .before .before .before .before .before .before .before .shared-slice-known .given i)) (λ i. omega (arith, c .before .before .before .before .before .before .before .before .before .before .before .before .before .before .before .shared-slice-known2 .given i)) in omega arith
 
--- src/lib.rt:37:1
 sizes-returns-2 : (t : ℕ) → sizes-lts.Need-returns-2 (
   head-at-reads.Asked,
   head-at-reads.Learnt,
@@ -443,7 +406,6 @@ sizes-returns-2 : (t : ℕ) → sizes-lts.Need-returns-2 (
 ) (sizes-at t) sizes.Post
 sizes-returns-2 t c = absurd (not-cut (c .before .before .before .before .before .before .before .before .args .left) (c .before .before .before .before .before .before .before .before .args .at) (c .before .before .before .before .before .before .before .before .args .s .now) (c .before .before .before .before .before .before .before .before .args .list .now) (c .before .before .before .before .before .before .before .before .args .tab .now) (c .before .before .before .before .before .before .before .before .args .back .now) (c .before .before .before .before .before .before .before .before .args .p .now) (c .before .before .before .before .before .before .before .before .args .u .now) (length (c .before .before .before .before .before .before .before .before .args .work .now)) (c .before .before .before .before .before .before .before .before .pre .1) (c .before .before .before .before .if1 .left) (sym (c .before .before .head-at .ensures) ∙ c .enum-told .given .1))
 
--- src/lib.rt:37:1
 sizes-same-length : (t : ℕ) → sizes-lts.Need-same-length (
   head-at-reads.Asked,
   head-at-reads.Learnt,
@@ -454,7 +416,6 @@ sizes-same-length : (t : ℕ) → sizes-lts.Need-same-length (
 ) (sizes-at t) sizes.Post
 sizes-same-length t c = search needs
 
--- src/lib.rt:37:1
 sizes-returns-3 : (t : ℕ) → sizes-lts.Need-returns-3 (
   head-at-reads.Asked,
   head-at-reads.Learnt,

@@ -6,39 +6,30 @@ use borrow.Author.Needs.{needs}
 use Rattle.gamma_out.proofs.add_front.Statement.{statement}
 use Rattle.gamma_out.proofs.add_front.Tie as tie
 
--- src/lib.rt:32:5
 xor-out-requires : tie.Need-xor-out-requires
 xor-out-requires c κs = search needs
 
--- src/lib.rt:33:24
 mul-xor-rest : tie.Need-mul-xor-rest
 mul-xor-rest c = search needs
 
--- src/lib.rt:33:47
 mul-xor-rest-2 : tie.Need-mul-xor-rest-2
 mul-xor-rest-2 c = search needs
 
--- src/lib.rt:33:42
 add-xor-rest : tie.Need-add-xor-rest
 add-xor-rest c = search needs
 
--- src/lib.rt:33:58
 mul-xor-rest-3 : tie.Need-mul-xor-rest-3
 mul-xor-rest-3 c = search needs
 
--- src/lib.rt:33:54
 sub-xor-rest : tie.Need-sub-xor-rest
 sub-xor-rest c = search needs
 
--- src/lib.rt:33:5
 xor-rest-requires : tie.Need-xor-rest-requires
 xor-rest-requires c κs = search needs
 
--- src/lib.rt:27:1
 same-length : tie.Need-same-length
 same-length c = search needs
 
--- src/lib.rt:27:1
 returns : tie.Need-returns
 returns c = adding.front-added (now (c .before .before .before .before .before .before .before .before .before .before .before .args .s)) (now (c .before .before .before .before .before .before .before .before .before .before .before .args .text)) (now (c .before .before .before .before .before .before .before .before .before .before .before .args .out)) (c .before .before .before .before .before .before .xor-out .last .1 .1 .1 .0) (c .before .before .xor-rest .last .1 .1 .1 .0) (c .before .before .before .before .before .before .before .before .before .before .before .args .at) (c .before .before .before .before .before .before .before .before .before .before .before .args .n) (c .before .before .before .before .before .before .before .before .before .before .before .args .n / 8) (omega arith) (omega (arith, c .before .before .before .before .before .before .before .before .before .before .before .pre)) (c .before .before .before .before .before .before .xor-out .ensures) (c .before .before .xor-rest .ensures)
 

@@ -6,27 +6,21 @@ use Rattle.modes.specs.Cell.{blocksIn}
 use Rattle.gamma_out.proofs.blocks_of.Statement.{statement}
 use Rattle.gamma_out.proofs.blocks_of.Tie as tie
 
--- src/lib.rt:23:11
 mul-result : tie.Need-mul-result
 mul-result c = omega (arith, width-pos (c .args .c) (c .pre .0), width-le (c .args .c) (c .pre .0))
 
--- src/lib.rt:23:11
 sub-result : tie.Need-sub-result
 sub-result c = omega (arith, width-pos (c .args .c) (c .pre .0), width-le (c .args .c) (c .pre .0))
 
--- src/lib.rt:23:6
 add-result : tie.Need-add-result
 add-result c = omega (arith, width-pos (c .args .c) (c .pre .0), width-le (c .args .c) (c .pre .0))
 
--- src/lib.rt:23:26
 mul-result-2 : tie.Need-mul-result-2
 mul-result-2 c = omega (arith, width-pos (c .args .c) (c .pre .0), width-le (c .args .c) (c .pre .0))
 
--- src/lib.rt:23:5
 div-result : tie.Need-div-result
 div-result c = omega (arith, width-pos (c .args .c) (c .pre .0), width-le (c .args .c) (c .pre .0))
 
--- src/lib.rt:19:1
 returns : tie.Need-returns
 unfolding blocksIn
 returns c = refl

@@ -8,19 +8,15 @@ use Rattle.handing.proofs.hand.Reads as reads
 use Rattle.handing.proofs.hand.Lts as lts
 use Rattle.handing.proofs.put.Reads as put-reads
 
--- src/lib.rt:30:9
 returns : tie.Need-returns
 returns c = lacks (c .before .before .before .args .v .now) (c .before .before .before .args .out .now) (c .if1 .taken)
 
--- src/lib.rt:32:5
 put-requires : tie.Need-put-requires
 put-requires c κs = search needs
 
--- src/lib.rt:26:1
 same-length : tie.Need-same-length
 same-length c = search needs
 
--- src/lib.rt:26:1
 returns-2 : tie.Need-returns-2
 returns-2 c = gives (c .before .before .before .before .before .before .before .args .v .now) (c .before .before .before .before .before .before .before .args .out .now) _ _ refl (omega arith) (hand-out (c .before .before .before .before .before .before .before .args .v .now) (c .before .before .before .before .before .before .before .args .out .now) _ (c .before .before .put .ensures))
 

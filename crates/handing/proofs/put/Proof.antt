@@ -16,39 +16,30 @@ Inv-loop out₀ at v i₀ out i = (i ≤ length v) × Run (λ j. getD v j 0) at 
 abbrev μ-loop : tie.MeasureT-loop
 μ-loop out₀ at v i₀ out i = length v - i
 
--- src/lib.rt:19:5
 loop-holds : tie.Need-loop-holds Inv-loop μ-loop
 loop-holds c = (omega arith, run-none (λ j. getD (c .args .v .now) j 0) (c .args .at) (c .args .out .now))
 
--- src/lib.rt:20:23
 shared-slice-read-out : tie.Need-shared-slice-read-out Inv-loop μ-loop
 shared-slice-read-out c = search needs
 
--- src/lib.rt:20:13
 add-out : tie.Need-add-out Inv-loop μ-loop
 add-out c = omega (arith, c .before .before .loop .inv .1 .long)
 
--- src/lib.rt:20:9
 slice-write-out : tie.Need-slice-write-out Inv-loop μ-loop
 slice-write-out c = omega (arith, c .before .before .loop .inv .1 .long, c .before .before .before .pre)
 
--- src/lib.rt:21:9
 add-i : tie.Need-add-i Inv-loop μ-loop
 add-i c = search needs
 
--- src/lib.rt:19:5
 loop-less : tie.Need-loop-less Inv-loop μ-loop
 loop-less c = search needs
 
--- src/lib.rt:19:5
 loop-again : tie.Need-loop-again Inv-loop μ-loop
 loop-again c = (omega arith, run-more (λ j. getD (c .before .before .before .args .v .now) j 0) (c .before .before .before .args .at) (c .before .before .before .args .out .now) (c .before .before .loop .i) (c .before .before .loop .out) (getD (c .before .before .before .args .v .now) (c .before .before .loop .i) 0) (c .before .before .loop .inv .1) (omega (arith, c .before .before .before .pre)) refl)
 
--- src/lib.rt:14:1
 same-length : tie.Need-same-length Inv-loop μ-loop
 same-length c = c .before .loop .inv .1 .long
 
--- src/lib.rt:14:1
 returns : tie.Need-returns Inv-loop μ-loop
 returns c = put-whole (c .before .before .args .v .now) (c .before .before .args .out .now) (c .before .loop .out) (c .before .before .args .at) (c .before .loop .i) (omega arith) (c .before .loop .inv .1)
 

@@ -9,15 +9,12 @@ use Rattle.judging.proofs.iv_wrong.Tie as tie
 use Rattle.judging.proofs.iv_wrong.Reads as reads
 use Rattle.judging.proofs.iv_wrong.Lts as lts
 
--- src/lib.rt:23:9
 returns : tie.Need-returns
 returns c = tests.iv-early (c .before .args .f) (c .before .args .b) (c .before .args .n) (omega arith)
 
--- src/lib.rt:26:9
 returns-2 : tie.Need-returns-2
 returns-2 c = tests.iv-taken (c .before .before .args .f) (c .before .before .args .b) (c .before .before .args .n) (omega arith) (omega arith)
 
--- src/lib.rt:19:1
 returns-3 : tie.Need-returns-3
 returns-3 c = tests.iv-late (c .before .before .args .f) (c .before .before .args .b) (c .before .before .args .n) (omega arith)
 

@@ -10,27 +10,21 @@ use Rattle.judging.proofs.judge.Lts as lts
 use Rattle.judging.proofs.judge_known.Reads as judge-known-reads
 use Rattle.suites.proofs.suite_of.Reads as suite-of-reads
 
--- src/lib.rt:145:11
 suite-of-requires : tie.Need-suite-of-requires
 suite-of-requires c κs = search needs
 
--- src/lib.rt:146:22
 enum-known-s : tie.Need-enum-known-s
 enum-known-s c = search needs
 
--- src/lib.rt:146:28
 judge-known-requires : tie.Need-judge-known-requires
 judge-known-requires c κs = known-row (c .before .before .before .before .args .n) (c .before .s .given .0 .0) (sym (c .before .before .before .suite-of .ensures) ∙ c .before .s .given .1)
 
--- src/lib.rt:147:27
 enum-told : tie.Need-enum-told
 enum-told c = search needs
 
--- src/lib.rt:142:1
 returns : tie.Need-returns
 returns c = steps.of-known (callOf (c .before .before .before .before .before .args .f)) (c .before .before .before .before .before .args .n) (c .before .before .s .given .0 .0) (c .before .before .before .before .before .args .key) (c .before .before .before .before .before .args .side) (c .before .before .before .before .before .args .text) (c .before .before .before .before .before .args .room) (c .before .before .before .before .suite-of .result) (c .judge-known .result) (c .before .before .before .before .suite-of .ensures) (c .before .before .s .given .1) (c .judge-known .ensures)
 
--- src/lib.rt:142:1
 returns-2 : tie.Need-returns-2
 returns-2 c = steps.of-unknown (callOf (c .before .before .before .args .f)) (c .before .before .before .args .n) (c .before .before .before .args .key) (c .before .before .before .args .side) (c .before .before .before .args .text) (c .before .before .before .args .room) (c .before .before .suite-of .result) (c .before .before .suite-of .ensures) (c .enum-told .given .1)
 

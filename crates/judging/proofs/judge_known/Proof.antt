@@ -26,67 +26,51 @@ use Rattle.judging.proofs.text_long.Reads as text-long-reads
 use Rattle.judging.proofs.text_partial.Reads as text-partial-reads
 use Rattle.suites.proofs.in_bytes.Reads as in-bytes-reads
 
--- src/lib.rt:116:13
 in-bytes-requires : tie.Need-in-bytes-requires
 in-bytes-requires c κs = search needs
 
--- src/lib.rt:117:15
 in-bytes-requires-2 : tie.Need-in-bytes-requires-2
 in-bytes-requires-2 c κs = search needs
 
--- src/lib.rt:118:9
 returns : tie.Need-returns
 returns c = steps.at-2 (callOf (c .before .before .before .before .args .f)) (c .before .before .before .before .args .s) (c .before .before .before .before .args .key) (c .before .before .before .before .args .side) (c .before .before .before .before .args .text) (c .before .before .before .before .args .room) (steps.key-off (c .before .before .before .before .args .s) (c .before .before .before .before .args .key) (c .before .before .in-bytes2 .result .0) (ap (λ x. x .0) (c .before .before .in-bytes2 .ensures)) (c .if1 .taken))
 
--- src/lib.rt:120:8
 iv-wrong-requires : tie.Need-iv-wrong-requires
 iv-wrong-requires c κs = search needs
 
--- src/lib.rt:121:9
 returns-2 : tie.Need-returns-2
 returns-2 c = steps.at-3 (callOf (c .before .before .before .before .before .before .args .f)) (c .before .before .before .before .before .before .args .s) (c .before .before .before .before .before .before .args .key) (c .before .before .before .before .before .before .args .side) (c .before .before .before .before .before .before .args .text) (c .before .before .before .before .before .before .args .room) (steps.key-ok (c .before .before .before .before .before .before .args .s) (c .before .before .before .before .before .before .args .key) (c .before .before .before .before .in-bytes2 .result .0) (ap (λ x. x .0) (c .before .before .before .before .in-bytes2 .ensures)) (c .before .before .if1 .left)) (steps.moved (λ x. ivWrong (sideOf (callOf (c .before .before .before .before .before .before .args .f))) x (c .before .before .before .before .before .before .args .side)) (c .before .iv-wrong .result) true (c .before .before .before .before .before .in-bytes .result .0) (blockBytes (c .before .before .before .before .before .before .args .s)) (ap (λ x. x .0) (c .before .before .before .before .before .in-bytes .ensures)) (c .before .iv-wrong .ensures) (c .if2 .taken))
 
--- src/lib.rt:123:8
 text-empty-requires : tie.Need-text-empty-requires
 text-empty-requires c κs = search needs
 
--- src/lib.rt:124:9
 returns-3 : tie.Need-returns-3
 returns-3 c = steps.at-4 (callOf (c .before .before .before .before .before .before .before .before .args .f)) (c .before .before .before .before .before .before .before .before .args .s) (c .before .before .before .before .before .before .before .before .args .key) (c .before .before .before .before .before .before .before .before .args .side) (c .before .before .before .before .before .before .before .before .args .text) (c .before .before .before .before .before .before .before .before .args .room) (steps.key-ok (c .before .before .before .before .before .before .before .before .args .s) (c .before .before .before .before .before .before .before .before .args .key) (c .before .before .before .before .before .before .in-bytes2 .result .0) (ap (λ x. x .0) (c .before .before .before .before .before .before .in-bytes2 .ensures)) (c .before .before .before .before .if1 .left)) (steps.moved (λ x. ivWrong (sideOf (callOf (c .before .before .before .before .before .before .before .before .args .f))) x (c .before .before .before .before .before .before .before .before .args .side)) (c .before .before .before .iv-wrong .result) false (c .before .before .before .before .before .before .before .in-bytes .result .0) (blockBytes (c .before .before .before .before .before .before .before .before .args .s)) (ap (λ x. x .0) (c .before .before .before .before .before .before .before .in-bytes .ensures)) (c .before .before .before .iv-wrong .ensures) (c .before .before .if2 .left)) (sym (c .before .text-empty .ensures) ∙ c .if3 .taken)
 
--- src/lib.rt:126:8
 text-long-requires : tie.Need-text-long-requires
 text-long-requires c κs = ((steps.sizes (c .before .before .before .before .before .before .before .before .args .s) (c .before .before .before .before .before .before .before .in-bytes .result .0) (c .before .before .before .before .before .before .before .before .pre) (ap (λ x. x .0) (c .before .before .before .before .before .before .before .in-bytes .ensures))) .some, (steps.sizes (c .before .before .before .before .before .before .before .before .args .s) (c .before .before .before .before .before .before .before .in-bytes .result .0) (c .before .before .before .before .before .before .before .before .pre) (ap (λ x. x .0) (c .before .before .before .before .before .before .before .in-bytes .ensures))) .whole)
 
--- src/lib.rt:127:9
 returns-4 : tie.Need-returns-4
 returns-4 c = steps.at-6 (callOf (c .before .before .before .before .before .before .before .before .before .before .args .f)) (c .before .before .before .before .before .before .before .before .before .before .args .s) (c .before .before .before .before .before .before .before .before .before .before .args .key) (c .before .before .before .before .before .before .before .before .before .before .args .side) (c .before .before .before .before .before .before .before .before .before .before .args .text) (c .before .before .before .before .before .before .before .before .before .before .args .room) (steps.key-ok (c .before .before .before .before .before .before .before .before .before .before .args .s) (c .before .before .before .before .before .before .before .before .before .before .args .key) (c .before .before .before .before .before .before .before .before .in-bytes2 .result .0) (ap (λ x. x .0) (c .before .before .before .before .before .before .before .before .in-bytes2 .ensures)) (c .before .before .before .before .before .before .if1 .left)) (steps.moved (λ x. ivWrong (sideOf (callOf (c .before .before .before .before .before .before .before .before .before .before .args .f))) x (c .before .before .before .before .before .before .before .before .before .before .args .side)) (c .before .before .before .before .before .iv-wrong .result) false (c .before .before .before .before .before .before .before .before .before .in-bytes .result .0) (blockBytes (c .before .before .before .before .before .before .before .before .before .before .args .s)) (ap (λ x. x .0) (c .before .before .before .before .before .before .before .before .before .in-bytes .ensures)) (c .before .before .before .before .before .iv-wrong .ensures) (c .before .before .before .before .if2 .left)) (sym (c .before .before .before .text-empty .ensures) ∙ c .before .before .if3 .left) (steps.moved (λ x. textLong (shapeOf (callOf (c .before .before .before .before .before .before .before .before .before .before .args .f))) x (c .before .before .before .before .before .before .before .before .before .before .args .text)) (c .before .text-long .result) true (c .before .before .before .before .before .before .before .before .before .in-bytes .result .0) (blockBytes (c .before .before .before .before .before .before .before .before .before .before .args .s)) (ap (λ x. x .0) (c .before .before .before .before .before .before .before .before .before .in-bytes .ensures)) (c .before .text-long .ensures) (c .if4 .taken))
 
--- src/lib.rt:129:8
 text-partial-requires : tie.Need-text-partial-requires
 text-partial-requires c κs = (steps.sizes (c .before .before .before .before .before .before .before .before .before .before .args .s) (c .before .before .before .before .before .before .before .before .before .in-bytes .result .0) (c .before .before .before .before .before .before .before .before .before .before .pre) (ap (λ x. x .0) (c .before .before .before .before .before .before .before .before .before .in-bytes .ensures))) .some
 
--- src/lib.rt:130:9
 returns-5 : tie.Need-returns-5
 returns-5 c = steps.at-5 (callOf (c .before .before .before .before .before .before .before .before .before .before .before .before .args .f)) (c .before .before .before .before .before .before .before .before .before .before .before .before .args .s) (c .before .before .before .before .before .before .before .before .before .before .before .before .args .key) (c .before .before .before .before .before .before .before .before .before .before .before .before .args .side) (c .before .before .before .before .before .before .before .before .before .before .before .before .args .text) (c .before .before .before .before .before .before .before .before .before .before .before .before .args .room) (steps.key-ok (c .before .before .before .before .before .before .before .before .before .before .before .before .args .s) (c .before .before .before .before .before .before .before .before .before .before .before .before .args .key) (c .before .before .before .before .before .before .before .before .before .before .in-bytes2 .result .0) (ap (λ x. x .0) (c .before .before .before .before .before .before .before .before .before .before .in-bytes2 .ensures)) (c .before .before .before .before .before .before .before .before .if1 .left)) (steps.moved (λ x. ivWrong (sideOf (callOf (c .before .before .before .before .before .before .before .before .before .before .before .before .args .f))) x (c .before .before .before .before .before .before .before .before .before .before .before .before .args .side)) (c .before .before .before .before .before .before .before .iv-wrong .result) false (c .before .before .before .before .before .before .before .before .before .before .before .in-bytes .result .0) (blockBytes (c .before .before .before .before .before .before .before .before .before .before .before .before .args .s)) (ap (λ x. x .0) (c .before .before .before .before .before .before .before .before .before .before .before .in-bytes .ensures)) (c .before .before .before .before .before .before .before .iv-wrong .ensures) (c .before .before .before .before .before .before .if2 .left)) (sym (c .before .before .before .before .before .text-empty .ensures) ∙ c .before .before .before .before .if3 .left) (steps.moved (λ x. textLong (shapeOf (callOf (c .before .before .before .before .before .before .before .before .before .before .before .before .args .f))) x (c .before .before .before .before .before .before .before .before .before .before .before .before .args .text)) (c .before .before .before .text-long .result) false (c .before .before .before .before .before .before .before .before .before .before .before .in-bytes .result .0) (blockBytes (c .before .before .before .before .before .before .before .before .before .before .before .before .args .s)) (ap (λ x. x .0) (c .before .before .before .before .before .before .before .before .before .before .before .in-bytes .ensures)) (c .before .before .before .text-long .ensures) (c .before .before .if4 .left)) (steps.moved (λ x. textPartial (shapeOf (callOf (c .before .before .before .before .before .before .before .before .before .before .before .before .args .f))) x (c .before .before .before .before .before .before .before .before .before .before .before .before .args .text)) (c .before .text-partial .result) true (c .before .before .before .before .before .before .before .before .before .before .before .in-bytes .result .0) (blockBytes (c .before .before .before .before .before .before .before .before .before .before .before .before .args .s)) (ap (λ x. x .0) (c .before .before .before .before .before .before .before .before .before .before .before .in-bytes .ensures)) (c .before .text-partial .ensures) (c .if5 .taken))
 
--- src/lib.rt:132:8
 tag-wrong-requires : tie.Need-tag-wrong-requires
 tag-wrong-requires c κs = search needs
 
--- src/lib.rt:133:9
 returns-6 : tie.Need-returns-6
 returns-6 c = steps.at-7 (callOf (c .before .before .before .before .before .before .before .before .before .before .before .before .before .before .args .f)) (c .before .before .before .before .before .before .before .before .before .before .before .before .before .before .args .s) (c .before .before .before .before .before .before .before .before .before .before .before .before .before .before .args .key) (c .before .before .before .before .before .before .before .before .before .before .before .before .before .before .args .side) (c .before .before .before .before .before .before .before .before .before .before .before .before .before .before .args .text) (c .before .before .before .before .before .before .before .before .before .before .before .before .before .before .args .room) (steps.key-ok (c .before .before .before .before .before .before .before .before .before .before .before .before .before .before .args .s) (c .before .before .before .before .before .before .before .before .before .before .before .before .before .before .args .key) (c .before .before .before .before .before .before .before .before .before .before .before .before .in-bytes2 .result .0) (ap (λ x. x .0) (c .before .before .before .before .before .before .before .before .before .before .before .before .in-bytes2 .ensures)) (c .before .before .before .before .before .before .before .before .before .before .if1 .left)) (steps.moved (λ x. ivWrong (sideOf (callOf (c .before .before .before .before .before .before .before .before .before .before .before .before .before .before .args .f))) x (c .before .before .before .before .before .before .before .before .before .before .before .before .before .before .args .side)) (c .before .before .before .before .before .before .before .before .before .iv-wrong .result) false (c .before .before .before .before .before .before .before .before .before .before .before .before .before .in-bytes .result .0) (blockBytes (c .before .before .before .before .before .before .before .before .before .before .before .before .before .before .args .s)) (ap (λ x. x .0) (c .before .before .before .before .before .before .before .before .before .before .before .before .before .in-bytes .ensures)) (c .before .before .before .before .before .before .before .before .before .iv-wrong .ensures) (c .before .before .before .before .before .before .before .before .if2 .left)) (sym (c .before .before .before .before .before .before .before .text-empty .ensures) ∙ c .before .before .before .before .before .before .if3 .left) (steps.moved (λ x. textLong (shapeOf (callOf (c .before .before .before .before .before .before .before .before .before .before .before .before .before .before .args .f))) x (c .before .before .before .before .before .before .before .before .before .before .before .before .before .before .args .text)) (c .before .before .before .before .before .text-long .result) false (c .before .before .before .before .before .before .before .before .before .before .before .before .before .in-bytes .result .0) (blockBytes (c .before .before .before .before .before .before .before .before .before .before .before .before .before .before .args .s)) (ap (λ x. x .0) (c .before .before .before .before .before .before .before .before .before .before .before .before .before .in-bytes .ensures)) (c .before .before .before .before .before .text-long .ensures) (c .before .before .before .before .if4 .left)) (steps.moved (λ x. textPartial (shapeOf (callOf (c .before .before .before .before .before .before .before .before .before .before .before .before .before .before .args .f))) x (c .before .before .before .before .before .before .before .before .before .before .before .before .before .before .args .text)) (c .before .before .before .text-partial .result) false (c .before .before .before .before .before .before .before .before .before .before .before .before .before .in-bytes .result .0) (blockBytes (c .before .before .before .before .before .before .before .before .before .before .before .before .before .before .args .s)) (ap (λ x. x .0) (c .before .before .before .before .before .before .before .before .before .before .before .before .before .in-bytes .ensures)) (c .before .before .before .text-partial .ensures) (c .before .before .if5 .left)) (steps.moved (λ x. tagWrong (sideOf (callOf (c .before .before .before .before .before .before .before .before .before .before .before .before .before .before .args .f))) x (c .before .before .before .before .before .before .before .before .before .before .before .before .before .before .args .side)) (c .before .tag-wrong .result) true (c .before .before .before .before .before .before .before .before .before .before .before .before .before .in-bytes .result .0) (blockBytes (c .before .before .before .before .before .before .before .before .before .before .before .before .before .before .args .s)) (ap (λ x. x .0) (c .before .before .before .before .before .before .before .before .before .before .before .before .before .in-bytes .ensures)) (c .before .tag-wrong .ensures) (c .if6 .taken))
 
--- src/lib.rt:135:15
 length-before-requires : tie.Need-length-before-requires
 length-before-requires c κs = ((steps.sizes (c .before .before .before .before .before .before .before .before .before .before .before .before .before .before .args .s) (c .before .before .before .before .before .before .before .before .before .before .before .before .before .in-bytes .result .0) (c .before .before .before .before .before .before .before .before .before .before .before .before .before .before .pre) (ap (λ x. x .0) (c .before .before .before .before .before .before .before .before .before .before .before .before .before .in-bytes .ensures))) .some, (steps.sizes (c .before .before .before .before .before .before .before .before .before .before .before .before .before .before .args .s) (c .before .before .before .before .before .before .before .before .before .before .before .before .before .in-bytes .result .0) (c .before .before .before .before .before .before .before .before .before .before .before .before .before .before .pre) (ap (λ x. x .0) (c .before .before .before .before .before .before .before .before .before .before .before .before .before .in-bytes .ensures))) .small, steps.filled-under (c .before .before .before .before .before .before .before .before .before .before .before .before .before .before .args .f) (c .before .before .before .before .before .before .before .before .before .before .before .before .before .in-bytes .result .0) (c .before .before .before .before .before .before .before .before .before .before .before .before .before .before .args .text) (steps.sizes (c .before .before .before .before .before .before .before .before .before .before .before .before .before .before .args .s) (c .before .before .before .before .before .before .before .before .before .before .before .before .before .in-bytes .result .0) (c .before .before .before .before .before .before .before .before .before .before .before .before .before .before .pre) (ap (λ x. x .0) (c .before .before .before .before .before .before .before .before .before .before .before .before .before .in-bytes .ensures))) (sym (c .before .before .before .before .before .text-long .ensures) ∙ c .before .before .before .before .if4 .left))
 
--- src/lib.rt:136:9
 returns-7 : tie.Need-returns-7
 returns-7 c = steps.at-9 (callOf (c .before .before .before .before .before .before .before .before .before .before .before .before .before .before .before .before .args .f)) (c .before .before .before .before .before .before .before .before .before .before .before .before .before .before .before .before .args .s) (c .before .before .before .before .before .before .before .before .before .before .before .before .before .before .before .before .args .key) (c .before .before .before .before .before .before .before .before .before .before .before .before .before .before .before .before .args .side) (c .before .before .before .before .before .before .before .before .before .before .before .before .before .before .before .before .args .text) (c .before .before .before .before .before .before .before .before .before .before .before .before .before .before .before .before .args .room) (steps.key-ok (c .before .before .before .before .before .before .before .before .before .before .before .before .before .before .before .before .args .s) (c .before .before .before .before .before .before .before .before .before .before .before .before .before .before .before .before .args .key) (c .before .before .before .before .before .before .before .before .before .before .before .before .before .before .in-bytes2 .result .0) (ap (λ x. x .0) (c .before .before .before .before .before .before .before .before .before .before .before .before .before .before .in-bytes2 .ensures)) (c .before .before .before .before .before .before .before .before .before .before .before .before .if1 .left)) (steps.moved (λ x. ivWrong (sideOf (callOf (c .before .before .before .before .before .before .before .before .before .before .before .before .before .before .before .before .args .f))) x (c .before .before .before .before .before .before .before .before .before .before .before .before .before .before .before .before .args .side)) (c .before .before .before .before .before .before .before .before .before .before .before .iv-wrong .result) false (c .before .before .before .before .before .before .before .before .before .before .before .before .before .before .before .in-bytes .result .0) (blockBytes (c .before .before .before .before .before .before .before .before .before .before .before .before .before .before .before .before .args .s)) (ap (λ x. x .0) (c .before .before .before .before .before .before .before .before .before .before .before .before .before .before .before .in-bytes .ensures)) (c .before .before .before .before .before .before .before .before .before .before .before .iv-wrong .ensures) (c .before .before .before .before .before .before .before .before .before .before .if2 .left)) (sym (c .before .before .before .before .before .before .before .before .before .text-empty .ensures) ∙ c .before .before .before .before .before .before .before .before .if3 .left) (steps.moved (λ x. textLong (shapeOf (callOf (c .before .before .before .before .before .before .before .before .before .before .before .before .before .before .before .before .args .f))) x (c .before .before .before .before .before .before .before .before .before .before .before .before .before .before .before .before .args .text)) (c .before .before .before .before .before .before .before .text-long .result) false (c .before .before .before .before .before .before .before .before .before .before .before .before .before .before .before .in-bytes .result .0) (blockBytes (c .before .before .before .before .before .before .before .before .before .before .before .before .before .before .before .before .args .s)) (ap (λ x. x .0) (c .before .before .before .before .before .before .before .before .before .before .before .before .before .before .before .in-bytes .ensures)) (c .before .before .before .before .before .before .before .text-long .ensures) (c .before .before .before .before .before .before .if4 .left)) (steps.moved (λ x. textPartial (shapeOf (callOf (c .before .before .before .before .before .before .before .before .before .before .before .before .before .before .before .before .args .f))) x (c .before .before .before .before .before .before .before .before .before .before .before .before .before .before .before .before .args .text)) (c .before .before .before .before .before .text-partial .result) false (c .before .before .before .before .before .before .before .before .before .before .before .before .before .before .before .in-bytes .result .0) (blockBytes (c .before .before .before .before .before .before .before .before .before .before .before .before .before .before .before .before .args .s)) (ap (λ x. x .0) (c .before .before .before .before .before .before .before .before .before .before .before .before .before .before .before .in-bytes .ensures)) (c .before .before .before .before .before .text-partial .ensures) (c .before .before .before .before .if5 .left)) (steps.moved (λ x. tagWrong (sideOf (callOf (c .before .before .before .before .before .before .before .before .before .before .before .before .before .before .before .before .args .f))) x (c .before .before .before .before .before .before .before .before .before .before .before .before .before .before .before .before .args .side)) (c .before .before .before .tag-wrong .result) false (c .before .before .before .before .before .before .before .before .before .before .before .before .before .before .before .in-bytes .result .0) (blockBytes (c .before .before .before .before .before .before .before .before .before .before .before .before .before .before .before .before .args .s)) (ap (λ x. x .0) (c .before .before .before .before .before .before .before .before .before .before .before .before .before .before .before .in-bytes .ensures)) (c .before .before .before .tag-wrong .ensures) (c .before .before .if6 .left)) (lt-ltb (c .before .before .before .before .before .before .before .before .before .before .before .before .before .before .before .before .args .room) (lengthBefore (callOf (c .before .before .before .before .before .before .before .before .before .before .before .before .before .before .before .before .args .f)) (blockBytes (c .before .before .before .before .before .before .before .before .before .before .before .before .before .before .before .before .args .s)) (c .before .before .before .before .before .before .before .before .before .before .before .before .before .before .before .before .args .text)) (omega (arith, (c .before .length-before .ensures ∙ ap (λ x. lengthBefore (callOf (c .before .before .before .before .before .before .before .before .before .before .before .before .before .before .before .before .args .f)) x (c .before .before .before .before .before .before .before .before .before .before .before .before .before .before .before .before .args .text)) (ap (λ x. x .0) (c .before .before .before .before .before .before .before .before .before .before .before .before .before .before .before .in-bytes .ensures))), c .if7 .taken)))
 
--- src/lib.rt:112:1
 returns-8 : tie.Need-returns-8
 returns-8 c = steps.at-end (callOf (c .before .before .before .before .before .before .before .before .before .before .before .before .before .before .before .before .args .f)) (c .before .before .before .before .before .before .before .before .before .before .before .before .before .before .before .before .args .s) (c .before .before .before .before .before .before .before .before .before .before .before .before .before .before .before .before .args .key) (c .before .before .before .before .before .before .before .before .before .before .before .before .before .before .before .before .args .side) (c .before .before .before .before .before .before .before .before .before .before .before .before .before .before .before .before .args .text) (c .before .before .before .before .before .before .before .before .before .before .before .before .before .before .before .before .args .room) (steps.key-ok (c .before .before .before .before .before .before .before .before .before .before .before .before .before .before .before .before .args .s) (c .before .before .before .before .before .before .before .before .before .before .before .before .before .before .before .before .args .key) (c .before .before .before .before .before .before .before .before .before .before .before .before .before .before .in-bytes2 .result .0) (ap (λ x. x .0) (c .before .before .before .before .before .before .before .before .before .before .before .before .before .before .in-bytes2 .ensures)) (c .before .before .before .before .before .before .before .before .before .before .before .before .if1 .left)) (steps.moved (λ x. ivWrong (sideOf (callOf (c .before .before .before .before .before .before .before .before .before .before .before .before .before .before .before .before .args .f))) x (c .before .before .before .before .before .before .before .before .before .before .before .before .before .before .before .before .args .side)) (c .before .before .before .before .before .before .before .before .before .before .before .iv-wrong .result) false (c .before .before .before .before .before .before .before .before .before .before .before .before .before .before .before .in-bytes .result .0) (blockBytes (c .before .before .before .before .before .before .before .before .before .before .before .before .before .before .before .before .args .s)) (ap (λ x. x .0) (c .before .before .before .before .before .before .before .before .before .before .before .before .before .before .before .in-bytes .ensures)) (c .before .before .before .before .before .before .before .before .before .before .before .iv-wrong .ensures) (c .before .before .before .before .before .before .before .before .before .before .if2 .left)) (sym (c .before .before .before .before .before .before .before .before .before .text-empty .ensures) ∙ c .before .before .before .before .before .before .before .before .if3 .left) (steps.moved (λ x. textLong (shapeOf (callOf (c .before .before .before .before .before .before .before .before .before .before .before .before .before .before .before .before .args .f))) x (c .before .before .before .before .before .before .before .before .before .before .before .before .before .before .before .before .args .text)) (c .before .before .before .before .before .before .before .text-long .result) false (c .before .before .before .before .before .before .before .before .before .before .before .before .before .before .before .in-bytes .result .0) (blockBytes (c .before .before .before .before .before .before .before .before .before .before .before .before .before .before .before .before .args .s)) (ap (λ x. x .0) (c .before .before .before .before .before .before .before .before .before .before .before .before .before .before .before .in-bytes .ensures)) (c .before .before .before .before .before .before .before .text-long .ensures) (c .before .before .before .before .before .before .if4 .left)) (steps.moved (λ x. textPartial (shapeOf (callOf (c .before .before .before .before .before .before .before .before .before .before .before .before .before .before .before .before .args .f))) x (c .before .before .before .before .before .before .before .before .before .before .before .before .before .before .before .before .args .text)) (c .before .before .before .before .before .text-partial .result) false (c .before .before .before .before .before .before .before .before .before .before .before .before .before .before .before .in-bytes .result .0) (blockBytes (c .before .before .before .before .before .before .before .before .before .before .before .before .before .before .before .before .args .s)) (ap (λ x. x .0) (c .before .before .before .before .before .before .before .before .before .before .before .before .before .before .before .in-bytes .ensures)) (c .before .before .before .before .before .text-partial .ensures) (c .before .before .before .before .if5 .left)) (steps.moved (λ x. tagWrong (sideOf (callOf (c .before .before .before .before .before .before .before .before .before .before .before .before .before .before .before .before .args .f))) x (c .before .before .before .before .before .before .before .before .before .before .before .before .before .before .before .before .args .side)) (c .before .before .before .tag-wrong .result) false (c .before .before .before .before .before .before .before .before .before .before .before .before .before .before .before .in-bytes .result .0) (blockBytes (c .before .before .before .before .before .before .before .before .before .before .before .before .before .before .before .before .args .s)) (ap (λ x. x .0) (c .before .before .before .before .before .before .before .before .before .before .before .before .before .before .before .in-bytes .ensures)) (c .before .before .before .tag-wrong .ensures) (c .before .before .if6 .left)) (le-ltb (c .before .before .before .before .before .before .before .before .before .before .before .before .before .before .before .before .args .room) (lengthBefore (callOf (c .before .before .before .before .before .before .before .before .before .before .before .before .before .before .before .before .args .f)) (blockBytes (c .before .before .before .before .before .before .before .before .before .before .before .before .before .before .before .before .args .s)) (c .before .before .before .before .before .before .before .before .before .before .before .before .before .before .before .before .args .text)) (omega (arith, (c .before .length-before .ensures ∙ ap (λ x. lengthBefore (callOf (c .before .before .before .before .before .before .before .before .before .before .before .before .before .before .before .before .args .f)) x (c .before .before .before .before .before .before .before .before .before .before .before .before .before .before .before .before .args .text)) (ap (λ x. x .0) (c .before .before .before .before .before .before .before .before .before .before .before .before .before .before .before .in-bytes .ensures))), c .if7 .left)))
 

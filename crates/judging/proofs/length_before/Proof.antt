@@ -9,39 +9,30 @@ use Rattle.judging.proofs.length_before.Tie as tie
 use Rattle.judging.proofs.length_before.Reads as reads
 use Rattle.judging.proofs.length_before.Lts as lts
 
--- src/lib.rt:94:9
 returns : tie.Need-returns
 returns c = tests.length-block (c .before .args .f) (c .before .args .b) (c .before .args .n) (omega arith)
 
--- src/lib.rt:97:9
 returns-2 : tie.Need-returns-2
 returns-2 c = tests.length-text (c .before .before .args .f) (c .before .before .args .b) (c .before .before .args .n) (omega arith) (omega arith)
 
--- src/lib.rt:100:21
 div-result : tie.Need-div-result
 div-result c = search needs
 
--- src/lib.rt:100:21
 add-result : tie.Need-add-result
 add-result c = omega (arith, tests.quotient-small (c .before .before .before .args .b) (c .before .before .before .args .n) (c .before .before .before .pre .0) (c .before .before .before .pre .2 (omega arith)))
 
--- src/lib.rt:100:16
 mul-result : tie.Need-mul-result
 mul-result c = omega (arith, tests.filled-small (c .before .before .before .args .b) (c .before .before .before .args .n) (c .before .before .before .pre .1) (c .before .before .before .pre .2 (omega arith)))
 
--- src/lib.rt:100:9
 returns-3 : tie.Need-returns-3
 returns-3 c = tests.length-filled (c .before .before .before .args .f) (c .before .before .before .args .b) (c .before .before .before .args .n) (omega arith)
 
--- src/lib.rt:103:9
 returns-4 : tie.Need-returns-4
 returns-4 c = tests.length-unfilled (c .before .before .before .before .args .f) (c .before .before .before .before .args .b) (c .before .before .before .before .args .n) (omega arith)
 
--- src/lib.rt:106:9
 returns-5 : tie.Need-returns-5
 returns-5 c = tests.length-tag (c .before .before .before .before .before .args .f) (c .before .before .before .before .before .args .b) (c .before .before .before .before .before .args .n) (omega arith)
 
--- src/lib.rt:89:1
 returns-6 : tie.Need-returns-6
 returns-6 c = tests.length-yes (c .before .before .before .before .before .args .f) (c .before .before .before .before .before .args .b) (c .before .before .before .before .before .args .n) (omega arith)
 

@@ -11,19 +11,15 @@ use Rattle.judging.proofs.tag_wrong.Reads as reads
 use Rattle.judging.proofs.tag_wrong.Lts as lts
 use Rattle.suites.proofs.in_bytes.Reads as in-bytes-reads
 
--- src/lib.rt:80:9
 returns : tie.Need-returns
 returns c = tests.tag-none (c .before .args .f) (c .before .args .b) (c .before .args .n) (omega arith)
 
--- src/lib.rt:82:12
 in-bytes-requires : tie.Need-in-bytes-requires
 in-bytes-requires c κs = search needs
 
--- src/lib.rt:83:9
 returns-2 : tie.Need-returns-2
 returns-2 c = tests.tag-low (c .before .before .before .before .args .b) (c .before .before .before .before .args .n) (omega (arith, ap (λ x. x .0) (c .before .before .in-bytes .ensures))) ∙ tests.tag-taken (c .before .before .before .before .args .f) (c .before .before .before .before .args .b) (c .before .before .before .before .args .n) (omega arith)
 
--- src/lib.rt:76:1
 returns-3 : tie.Need-returns-3
 returns-3 c = tests.tag-high (c .before .before .before .before .args .b) (c .before .before .before .before .args .n) (omega (arith, ap (λ x. x .0) (c .before .before .in-bytes .ensures))) ∙ tests.tag-taken (c .before .before .before .before .args .f) (c .before .before .before .before .args .b) (c .before .before .before .before .args .n) (omega arith)
 

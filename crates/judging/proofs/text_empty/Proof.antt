@@ -9,11 +9,9 @@ use Rattle.judging.proofs.text_empty.Tie as tie
 use Rattle.judging.proofs.text_empty.Reads as reads
 use Rattle.judging.proofs.text_empty.Lts as lts
 
--- src/lib.rt:36:9
 returns : tie.Need-returns
 returns c = tests.empty-block (c .before .args .f) (c .before .args .n) (omega arith)
 
--- src/lib.rt:32:1
 returns-2 : tie.Need-returns-2
 returns-2 c = tests.empty-text (c .before .args .f) (c .before .args .n) (omega arith)
 

@@ -9,35 +9,27 @@ use Rattle.judging.proofs.text_partial.Tie as tie
 use Rattle.judging.proofs.text_partial.Reads as reads
 use Rattle.judging.proofs.text_partial.Lts as lts
 
--- src/lib.rt:61:9
 returns : tie.Need-returns
 returns c = tests.partial-block (c .before .args .f) (c .before .args .b) (c .before .args .n) (omega arith)
 
--- src/lib.rt:64:16
 rem-result : tie.Need-rem-result
 rem-result c = search needs
 
--- src/lib.rt:64:9
 returns-2 : tie.Need-returns-2
 returns-2 c = tests.partial-whole (c .before .before .args .f) (c .before .before .args .b) (c .before .before .args .n) (omega arith) (omega arith) (λ e. omega arith)
 
--- src/lib.rt:67:16
 rem-result-2 : tie.Need-rem-result-2
 rem-result-2 c = search needs
 
--- src/lib.rt:67:9
 returns-3 : tie.Need-returns-3
 returns-3 c = tests.partial-whole (c .before .before .before .args .f) (c .before .before .before .args .b) (c .before .before .before .args .n) (omega arith) (omega arith) (λ e. omega arith)
 
--- src/lib.rt:70:16
 rem-result-3 : tie.Need-rem-result-3
 rem-result-3 c = search needs
 
--- src/lib.rt:70:9
 returns-4 : tie.Need-returns-4
 returns-4 c = tests.partial-whole (c .before .before .before .before .args .f) (c .before .before .before .before .args .b) (c .before .before .before .before .args .n) (omega arith) (omega arith) (λ e. omega arith)
 
--- src/lib.rt:56:1
 returns-5 : tie.Need-returns-5
 returns-5 c = tests.partial-none (c .before .before .before .before .args .f) (c .before .before .before .before .args .b) (c .before .before .before .before .args .n) (omega arith) (λ e. omega arith) (λ e. omega arith) (λ e. omega arith)
 

@@ -11,24 +11,19 @@ use Rattle.katsunebyo.proofs.katsu_mac.Lts as lts
 use Rattle.answers.proofs.give.Reads as give-reads
 use Rattle.entries.proofs.sealed.Reads as sealed-reads
 
--- src/lib.rt:174:41
 slice-aggregate-sealed : tie.Need-slice-aggregate-sealed
 slice-aggregate-sealed c = search needs
 
--- src/lib.rt:174:9
 sealed-requires : tie.Need-sealed-requires
 unfolding needOf pick
 sealed-requires c κs = refl
 
--- src/lib.rt:173:5
 give-requires : tie.Need-give-requires
 give-requires c κs = search needs
 
--- src/lib.rt:163:1
 same-length : tie.Need-same-length
 same-length c = search needs
 
--- src/lib.rt:163:1
 returns : tie.Need-returns
 unfolding callOf
 returns c = seen-told (c .before .before .before .before .sealed .result) _ _ _ _ (c .give .ensures .0) (c .give .ensures .1) (c .before .before .before .before .sealed .ensures)

@@ -6,39 +6,30 @@ use Rattle.katsunebyo.proofs.katsu_prepare.Reads as reads
 use Rattle.katsunebyo.proofs.katsu_prepare.Lts as lts
 use Rattle.preparing.proofs.prepare.Reads as prepare-reads
 
--- src/lib.rt:210:11
 prepare-requires : tie.Need-prepare-requires
 prepare-requires c κs = search needs
 
--- src/lib.rt:211:21
 enum-known-n : tie.Need-enum-known-n
 enum-known-n c = search needs
 
--- src/lib.rt:216:24
 enum-known-m : tie.Need-enum-known-m
 enum-known-m c = search needs
 
--- src/lib.rt:199:1
 same-length : tie.Need-same-length
 same-length c = search needs
 
--- src/lib.rt:199:1
 same-length-2 : tie.Need-same-length-2
 same-length-2 c = search needs
 
--- src/lib.rt:199:1
 returns : tie.Need-returns
 returns c = ended-done (c .before .before .before .before .before .before .before .prepare .result) (c .before .n .given .0 .0) _ _ _ (c .before .n .given .1) (c .before .before .before .before .before .before .before .prepare .ensures)
 
--- src/lib.rt:199:1
 same-length-3 : tie.Need-same-length-3
 same-length-3 c = search needs
 
--- src/lib.rt:199:1
 same-length-4 : tie.Need-same-length-4
 same-length-4 c = search needs
 
--- src/lib.rt:199:1
 returns-2 : tie.Need-returns-2
 returns-2 c = ended-refused (c .before .before .before .before .before .before .before .prepare .result) (c .before .m .given .0 .0) (c .before .m .given .0 .1 .0) _ _ _ (c .before .m .given .1) (c .before .before .before .before .before .before .before .prepare .ensures)
 

@@ -7,23 +7,18 @@ use Rattle.katsunebyo.proofs.katsu_run.Lts as lts
 use Rattle.answers.proofs.give.Reads as give-reads
 use Rattle.runner.proofs.run.Reads as run-reads
 
--- src/lib.rt:207:19
 run-requires : tie.Need-run-requires
 run-requires c κs = search needs
 
--- src/lib.rt:207:5
 give-requires : tie.Need-give-requires
 give-requires c κs = search needs
 
--- src/lib.rt:197:1
 same-length : tie.Need-same-length
 same-length c = search needs
 
--- src/lib.rt:197:1
 same-length-2 : tie.Need-same-length-2
 same-length-2 c = search needs
 
--- src/lib.rt:197:1
 returns : tie.Need-returns
 returns c = ran-told (c .before .before .before .before .before .before .run .result) _ _ _ _ _ (c .give .ensures .0) (c .give .ensures .1) (c .before .before .before .before .before .before .run .ensures)
 

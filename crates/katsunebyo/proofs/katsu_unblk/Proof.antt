@@ -11,24 +11,19 @@ use Rattle.katsunebyo.proofs.katsu_unblk.Lts as lts
 use Rattle.answers.proofs.give.Reads as give-reads
 use Rattle.entries.proofs.opened.Reads as opened-reads
 
--- src/lib.rt:37:40
 slice-aggregate-opened : tie.Need-slice-aggregate-opened
 slice-aggregate-opened c = search needs
 
--- src/lib.rt:37:9
 opened-requires : tie.Need-opened-requires
 unfolding needOf pick
 opened-requires c κs = refl
 
--- src/lib.rt:36:5
 give-requires : tie.Need-give-requires
 give-requires c κs = search needs
 
--- src/lib.rt:26:1
 same-length : tie.Need-same-length
 same-length c = search needs
 
--- src/lib.rt:26:1
 returns : tie.Need-returns
 unfolding callOf
 returns c = seen-told (c .before .before .before .before .opened .result) _ _ _ _ (c .give .ensures .0) (c .give .ensures .1) (c .before .before .before .before .opened .ensures)

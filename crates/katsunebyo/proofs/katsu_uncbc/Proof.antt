@@ -11,20 +11,16 @@ use Rattle.katsunebyo.proofs.katsu_uncbc.Lts as lts
 use Rattle.answers.proofs.give.Reads as give-reads
 use Rattle.entries.proofs.opened.Reads as opened-reads
 
--- src/lib.rt:129:19
 opened-requires : tie.Need-opened-requires
 unfolding needOf pick
 opened-requires c κs = refl
 
--- src/lib.rt:129:5
 give-requires : tie.Need-give-requires
 give-requires c κs = search needs
 
--- src/lib.rt:118:1
 same-length : tie.Need-same-length
 same-length c = search needs
 
--- src/lib.rt:118:1
 returns : tie.Need-returns
 unfolding callOf
 returns c = seen-told (c .before .before .before .before .opened .result) _ _ _ _ (c .give .ensures .0) (c .give .ensures .1) (c .before .before .before .before .opened .ensures)

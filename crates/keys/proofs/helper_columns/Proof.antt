@@ -24,59 +24,45 @@ Inv-loop t key c kc h o₀ j₀ o j = (j ≤ c) × (o ≡ upTo j (wordAt h))
 abbrev μ-loop : tie.MeasureT-loop
 μ-loop t key c kc h o₀ j₀ o j = c - j
 
--- src/lib.rt:44:17
 slice-aggregate-load : tie.Need-slice-aggregate-load Inv-loop μ-loop
 slice-aggregate-load c = search needs
 
--- src/lib.rt:44:5
 load-requires : tie.Need-load-requires Inv-loop μ-loop
 load-requires c κs = search needs
 
--- src/lib.rt:45:27
 array-share-prefix-k : tie.Need-array-share-prefix-k Inv-loop μ-loop
 array-share-prefix-k c = search needs
 
--- src/lib.rt:45:27
 slice-aggregate-helper-key : tie.Need-slice-aggregate-helper-key Inv-loop μ-loop
 slice-aggregate-helper-key c = sym (loaded-long (c .before .before .before .before .before .args .kc) (now (c .before .before .before .before .before .args .key)) (c .before .before .load .last .0) (noughts 8) (c .before .before .load .ensures))
 
--- src/lib.rt:45:13
 helper-key-requires : tie.Need-helper-key-requires Inv-loop μ-loop
 helper-key-requires c κs = (c .before .before .before .before .before .pre .0, c .before .before .before .before .before .pre .1, (loaded-long (c .before .before .before .before .before .args .kc) (now (c .before .before .before .before .before .args .key)) (c .before .before .load .last .0) (noughts 8) (c .before .before .load .ensures)))
 
--- src/lib.rt:48:5
 loop-holds : tie.Need-loop-holds Inv-loop μ-loop
 loop-holds c = (omega arith, none-yet (wordAt (c .helper-key .result)))
 
--- src/lib.rt:49:31
 slice-aggregate-word-at : tie.Need-slice-aggregate-word-at Inv-loop μ-loop
 slice-aggregate-word-at c = search needs
 
--- src/lib.rt:49:16
 word-at-requires : tie.Need-word-at-requires Inv-loop μ-loop
 word-at-requires c κs = omega (arith, width-le (c .before .before .before .before .before .before .before .before .before .args .c) (c .before .before .before .before .before .before .before .before .before .pre .1 .width))
 
--- src/lib.rt:49:9
 mul-o : tie.Need-mul-o Inv-loop μ-loop
 mul-o c = omega (arith, width-le (c .before .before .before .before .before .before .before .before .before .before .args .c) (c .before .before .before .before .before .before .before .before .before .before .pre .1 .width))
 
--- src/lib.rt:49:9
 array-write-o : tie.Need-array-write-o Inv-loop μ-loop
 array-write-o c = omega (arith, width-le (c .before .before .before .before .before .before .before .before .before .before .args .c) (c .before .before .before .before .before .before .before .before .before .before .pre .1 .width))
 
--- src/lib.rt:50:9
 add-j : tie.Need-add-j Inv-loop μ-loop
 add-j c = search needs
 
--- src/lib.rt:48:5
 loop-less : tie.Need-loop-less Inv-loop μ-loop
 loop-less c = search needs
 
--- src/lib.rt:48:5
 loop-again : tie.Need-loop-again Inv-loop μ-loop
 loop-again c = (omega arith, one-more (c .before .before .before .loop .j) (wordAt (c .before .before .before .before .helper-key .result)) (c .before .before .before .loop .o) _ (omega (arith, width-le (c .before .before .before .before .before .before .before .before .before .before .args .c) (c .before .before .before .before .before .before .before .before .before .before .pre .1 .width))) (c .before .before .before .loop .inv .1) (c .word-at .ensures))
 
--- src/lib.rt:39:1
 returns : tie.Need-returns Inv-loop μ-loop
 returns c = let e : blockAt (c .before .before .before .before .before .before .before .before .args .c) (c .before .before .helper-key .result) 0 ≡ helper (c .before .before .before .before .before .before .before .before .args .c) (c .before .before .before .before .before .before .before .before .args .kc) (take (c .before .before .before .before .before .before .before .before .args .kc) (c .before .before .before .before .before .load .last .0)) = c .before .before .helper-key .ensures .1 in
     c .before .loop .inv .1 ∙ ap (λ n. upTo n (wordAt (c .before .before .helper-key .result))) (omega arith) ∙ from-block (c .before .before .before .before .before .before .before .before .args .c) (c .before .before .helper-key .result) _ (e ∙ ap (helper (c .before .before .before .before .before .before .before .before .args .c) (c .before .before .before .before .before .before .before .before .args .kc)) (loaded (c .before .before .before .before .before .before .before .before .args .kc) (now (c .before .before .before .before .before .before .before .before .args .key)) (c .before .before .before .before .before .load .last .0) (noughts 8) (c .before .before .before .before .before .load .ensures)))

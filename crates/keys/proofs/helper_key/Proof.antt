@@ -16,75 +16,57 @@ use Rattle.blocks.proofs.Widths.{width-le}
 use Rattle.seal_block.proofs.round.Reads as round-reads
 use Rattle.words.proofs.put_word.Reads as put-word-reads
 
--- src/lib.rt:22:21
 slice-aggregate-put-word : tie.Need-slice-aggregate-put-word
 slice-aggregate-put-word c = search needs
 
--- src/lib.rt:22:33
 add-put-word : tie.Need-add-put-word
 add-put-word c = omega (arith, width-le (c .before .before .args .c) (c .before .before .pre .1 .width), c .before .before .pre .1 .most)
 
--- src/lib.rt:22:33
 add-put-word-2 : tie.Need-add-put-word-2
 add-put-word-2 c = omega (arith, width-le (c .before .before .args .c) (c .before .before .pre .1 .width), c .before .before .pre .1 .most)
 
--- src/lib.rt:22:5
 put-word-requires : tie.Need-put-word-requires
 put-word-requires c κs = search needs
 
--- src/lib.rt:23:22
 slice-aggregate-add-keys : tie.Need-slice-aggregate-add-keys
 slice-aggregate-add-keys c = search needs
 
--- src/lib.rt:23:5
 add-keys-requires : tie.Need-add-keys-requires
 add-keys-requires c κs = (omega (arith, width-le (c .before .before .before .before .before .args .c) (c .before .before .before .before .before .pre .1 .width), c .before .before .before .before .before .pre .1 .most, ap length (c .before .before .put-word .ensures) ∙ length-put (noughts 32) 0 _), omega (arith, halves-le (c .before .before .before .before .before .args .c) (c .before .before .before .before .before .args .kc) (c .before .before .before .before .before .pre .1 .halves)))
 
--- src/lib.rt:24:26
 slice-aggregate-round : tie.Need-slice-aggregate-round
 slice-aggregate-round c = search needs
 
--- src/lib.rt:24:43
 sub-round : tie.Need-sub-round
 sub-round c = omega (arith, halves-le (c .before .before .before .before .before .before .before .before .args .c) (c .before .before .before .before .before .before .before .before .args .kc) (c .before .before .before .before .before .before .before .before .pre .1 .halves))
 
--- src/lib.rt:24:5
 round-requires : tie.Need-round-requires
 round-requires c κs = (c .before .before .before .before .before .before .before .before .pre .0, c .before .before .before .before .before .before .before .before .pre .1 .width, omega (arith, width-le (c .before .before .before .before .before .before .before .before .args .c) (c .before .before .before .before .before .before .before .before .pre .1 .width), c .before .before .before .before .before .before .before .before .pre .1 .most, ap length (c .before .before .before .before .before .put-word .ensures) ∙ length-put (noughts 32) 0 _, c .before .before .add-keys .ensures .long), omega (arith, halves-le (c .before .before .before .before .before .before .before .before .args .c) (c .before .before .before .before .before .before .before .before .args .kc) (c .before .before .before .before .before .before .before .before .pre .1 .halves)))
 
--- src/lib.rt:25:26
 slice-aggregate-round-2 : tie.Need-slice-aggregate-round-2
 slice-aggregate-round-2 c = search needs
 
--- src/lib.rt:25:40
 slice-aggregate-round-3 : tie.Need-slice-aggregate-round-3
 slice-aggregate-round-3 c = search needs
 
--- src/lib.rt:25:5
 round-requires-2 : tie.Need-round-requires-2
 round-requires-2 c κs = (c .before .before .before .before .before .before .before .before .before .before .before .before .pre .0, c .before .before .before .before .before .before .before .before .before .before .before .before .pre .1 .width, omega (arith, width-le (c .before .before .before .before .before .before .before .before .before .before .before .before .args .c) (c .before .before .before .before .before .before .before .before .before .before .before .before .pre .1 .width), c .before .before .before .before .before .before .before .before .before .before .before .before .pre .1 .most, ap length (c .before .before .before .before .before .before .before .before .before .put-word .ensures) ∙ length-put (noughts 32) 0 _, c .before .before .before .before .before .before .add-keys .ensures .long, c .before .before .before .round .ensures .long), omega (arith, width-le (c .before .before .before .before .before .before .before .before .before .before .before .before .args .c) (c .before .before .before .before .before .before .before .before .before .before .before .before .pre .1 .width), c .before .before .before .before .before .before .before .before .before .before .before .before .pre .1 .most))
 
--- src/lib.rt:26:22
 slice-aggregate-add-keys-2 : tie.Need-slice-aggregate-add-keys-2
 slice-aggregate-add-keys-2 c = search needs
 
--- src/lib.rt:26:5
 add-keys-requires-2 : tie.Need-add-keys-requires-2
 add-keys-requires-2 c κs = (omega (arith, width-le (c .before .before .before .before .before .before .before .before .before .before .before .before .before .before .before .args .c) (c .before .before .before .before .before .before .before .before .before .before .before .before .before .before .before .pre .1 .width), c .before .before .before .before .before .before .before .before .before .before .before .before .before .before .before .pre .1 .most, ap length (c .before .before .before .before .before .before .before .before .before .before .before .before .put-word .ensures) ∙ length-put (noughts 32) 0 _, c .before .before .before .before .before .before .before .before .before .add-keys .ensures .long, c .before .before .before .before .before .before .round .ensures .long, c .before .before .round2 .ensures .long), omega (arith, halves-le (c .before .before .before .before .before .before .before .before .before .before .before .before .before .before .before .args .c) (c .before .before .before .before .before .before .before .before .before .before .before .before .before .before .before .args .kc) (c .before .before .before .before .before .before .before .before .before .before .before .before .before .before .before .pre .1 .halves)))
 
--- src/lib.rt:27:26
 slice-aggregate-round-4 : tie.Need-slice-aggregate-round-4
 slice-aggregate-round-4 c = search needs
 
--- src/lib.rt:27:40
 slice-aggregate-round-5 : tie.Need-slice-aggregate-round-5
 slice-aggregate-round-5 c = search needs
 
--- src/lib.rt:27:5
 round-requires-3 : tie.Need-round-requires-3
 round-requires-3 c κs = (c .before .before .before .before .before .before .before .before .before .before .before .before .before .before .before .before .before .before .before .pre .0, c .before .before .before .before .before .before .before .before .before .before .before .before .before .before .before .before .before .before .before .pre .1 .width, omega (arith, width-le (c .before .before .before .before .before .before .before .before .before .before .before .before .before .before .before .before .before .before .before .args .c) (c .before .before .before .before .before .before .before .before .before .before .before .before .before .before .before .before .before .before .before .pre .1 .width), c .before .before .before .before .before .before .before .before .before .before .before .before .before .before .before .before .before .before .before .pre .1 .most, ap length (c .before .before .before .before .before .before .before .before .before .before .before .before .before .before .before .before .put-word .ensures) ∙ length-put (noughts 32) 0 _, c .before .before .before .before .before .before .before .before .before .before .before .before .before .add-keys .ensures .long, c .before .before .before .before .before .before .before .before .before .before .round .ensures .long, c .before .before .before .before .before .before .round2 .ensures .long, c .before .before .before .add-keys2 .ensures .long), omega (arith, width-le (c .before .before .before .before .before .before .before .before .before .before .before .before .before .before .before .before .before .before .before .args .c) (c .before .before .before .before .before .before .before .before .before .before .before .before .before .before .before .before .before .before .before .pre .1 .width), c .before .before .before .before .before .before .before .before .before .before .before .before .before .before .before .before .before .before .before .pre .1 .most))
 
--- src/lib.rt:16:1
 returns : tie.Need-returns
 returns c = (c .before .round3 .ensures .long ∙ c .before .before .before .before .before .add-keys2 .ensures .long ∙ c .before .before .before .before .before .before .before .before .round2 .ensures .long ∙ c .before .before .before .before .before .before .before .before .before .before .before .before .round .ensures .long ∙ c .before .before .before .before .before .before .before .before .before .before .before .before .before .before .before .add-keys .ensures .long ∙ ap length (c .before .before .before .before .before .before .before .before .before .before .before .before .before .before .before .before .before .before .put-word .ensures) ∙ length-put (noughts 32) 0 _, helper-is (c .before .before .before .before .before .before .before .before .before .before .before .before .before .before .before .before .before .before .before .before .before .args .c) (c .before .before .before .before .before .before .before .before .before .before .before .before .before .before .before .before .before .before .before .before .before .args .kc) (now (c .before .before .before .before .before .before .before .before .before .before .before .before .before .before .before .before .before .before .before .before .before .args .k)) (c .before .before .before .before .before .before .before .before .before .before .before .before .before .before .before .before .before .before .put-word .last .0) (c .before .before .before .before .before .before .before .before .before .before .before .before .before .before .before .add-keys .last .0) (c .before .before .before .before .before .before .before .before .before .before .before .before .round .last .1 .0) (c .before .before .before .before .before .before .before .before .round2 .last .1 .0) (c .before .before .before .before .before .add-keys2 .last .0) (c .before .round3 .last .1 .0) (width-le (c .before .before .before .before .before .before .before .before .before .before .before .before .before .before .before .before .before .before .before .before .before .args .c) (c .before .before .before .before .before .before .before .before .before .before .before .before .before .before .before .before .before .before .before .before .before .pre .1 .width)) (start-is (c .before .before .before .before .before .before .before .before .before .before .before .before .before .before .before .before .before .before .before .before .before .args .c) (c .before .before .before .before .before .before .before .before .before .before .before .before .before .before .before .before .before .before .before .before .before .args .kc) _ (c .before .before .before .before .before .before .before .before .before .before .before .before .before .before .before .before .before .before .put-word .last .0) (c .before .before .before .before .before .before .before .before .before .before .before .before .before .before .before .before .before .before .put-word .ensures) (omega arith) (width-le (c .before .before .before .before .before .before .before .before .before .before .before .before .before .before .before .before .before .before .before .before .before .args .c) (c .before .before .before .before .before .before .before .before .before .before .before .before .before .before .before .before .before .before .before .before .before .pre .1 .width)) (c .before .before .before .before .before .before .before .before .before .before .before .before .before .before .before .before .before .before .before .before .before .pre .1 .most)) (c .before .before .before .before .before .before .before .before .before .before .before .before .before .before .before .add-keys .ensures) (c .before .before .before .before .before .before .before .before .before .before .before .before .round .ensures) (c .before .before .before .before .before .before .before .before .round2 .ensures) (c .before .before .before .before .before .add-keys2 .ensures) (c .before .round3 .ensures))
 

@@ -19,59 +19,45 @@ use Rattle.keys.proofs.helper_key.Reads as helper-key-reads
 use Rattle.odd_keys.proofs.odd_keys.Reads as odd-keys-reads
 use Rattle.loads.proofs.load.Reads as load-reads
 
--- src/lib.rt:199:17
 slice-aggregate-load : tie.Need-slice-aggregate-load
 slice-aggregate-load c = search needs
 
--- src/lib.rt:199:5
 load-requires : tie.Need-load-requires
 load-requires c κs = search needs
 
--- src/lib.rt:200:27
 array-share-prefix-k : tie.Need-array-share-prefix-k
 array-share-prefix-k c = search needs
 
--- src/lib.rt:200:27
 slice-aggregate-helper-key : tie.Need-slice-aggregate-helper-key
 slice-aggregate-helper-key c = sym (loaded-long (c .before .before .before .before .before .args .kc) (now (c .before .before .before .before .before .args .key)) (c .before .before .load .last .0) (noughts 8) (c .before .before .load .ensures))
 
--- src/lib.rt:200:13
 helper-key-requires : tie.Need-helper-key-requires
 helper-key-requires c κs = (c .before .before .before .before .before .pre .0, c .before .before .before .before .before .pre .1, (loaded-long (c .before .before .before .before .before .args .kc) (now (c .before .before .before .before .before .args .key)) (c .before .before .load .last .0) (noughts 8) (c .before .before .load .ensures)))
 
--- src/lib.rt:202:18
 slice-aggregate-even-keys : tie.Need-slice-aggregate-even-keys
 slice-aggregate-even-keys c = search needs
 
--- src/lib.rt:202:27
 slice-aggregate-even-keys-2 : tie.Need-slice-aggregate-even-keys-2
 slice-aggregate-even-keys-2 c = search needs
 
--- src/lib.rt:202:31
 array-share-prefix-k-2 : tie.Need-array-share-prefix-k-2
 array-share-prefix-k-2 c = search needs
 
--- src/lib.rt:202:31
 slice-aggregate-even-keys-3 : tie.Need-slice-aggregate-even-keys-3
 slice-aggregate-even-keys-3 c = sym (loaded-long (c .before .before .before .before .before .before .before .before .before .args .kc) (now (c .before .before .before .before .before .before .before .before .before .args .key)) (c .before .before .before .before .before .before .load .last .0) (noughts 8) (c .before .before .before .before .before .before .load .ensures))
 
--- src/lib.rt:202:48
 add-even-keys : tie.Need-add-even-keys
 add-even-keys c = search needs
 
--- src/lib.rt:202:5
 even-keys-requires : tie.Need-even-keys-requires
 even-keys-requires c κs = (c .before .before .before .before .before .before .before .before .before .pre .0, c .before .before .before .before .before .before .before .before .before .pre .1, (loaded-long (c .before .before .before .before .before .before .before .before .before .args .kc) (now (c .before .before .before .before .before .before .before .before .before .args .key)) (c .before .before .before .before .before .before .load .last .0) (noughts 8) (c .before .before .before .before .before .before .load .ensures)), omega (arith, c .before .before .before .before .before .before .before .before .before .pre .4), omega (arith, (width-le (c .before .before .before .before .before .before .before .before .before .args .c) (c .before .before .before .before .before .before .before .before .before .pre .1 .width)), c .before .before .before .helper-key .ensures .0), keys-fit (c .before .before .before .before .before .before .before .before .before .args .c) (c .before .before .before .before .before .before .before .before .before .args .r) (width-le (c .before .before .before .before .before .before .before .before .before .args .c) (c .before .before .before .before .before .before .before .before .before .pre .1 .width)) (c .before .before .before .before .before .before .before .before .before .pre .4))
 
--- src/lib.rt:203:14
 slice-aggregate-odd-keys : tie.Need-slice-aggregate-odd-keys
 slice-aggregate-odd-keys c = search needs
 
--- src/lib.rt:203:5
 odd-keys-requires : tie.Need-odd-keys-requires
 odd-keys-requires c κs = (c .before .before .before .before .before .before .before .before .before .before .before .before .pre .1 .width, odd-fit (c .before .before .before .before .before .before .before .before .before .before .before .before .args .c) (c .before .before .before .before .before .before .before .before .before .before .before .before .args .r) (length (c .before .before .even-keys .last .1 .0)) (width-le (c .before .before .before .before .before .before .before .before .before .before .before .before .args .c) (c .before .before .before .before .before .before .before .before .before .before .before .before .pre .1 .width)) (c .before .before .before .before .before .before .before .before .before .before .before .before .pre .4) (c .before .before .even-keys .ensures .long))
 
--- src/lib.rt:194:1
 returns : tie.Need-returns
 returns c = schedule-is (c .before .before .before .before .before .before .before .before .before .before .before .before .before .before .args .c) (c .before .before .before .before .before .before .before .before .before .before .before .before .before .before .args .kc) (c .before .before .before .before .before .before .before .before .before .before .before .before .before .before .args .r) (take (c .before .before .before .before .before .before .before .before .before .before .before .before .before .before .args .kc) (c .before .before .before .before .before .before .before .before .before .before .before .load .last .0)) (blockAt (c .before .before .before .before .before .before .before .before .before .before .before .before .before .before .args .c) (c .before .before .before .before .before .before .before .before .helper-key .result) 0) (c .before .before .before .before .even-keys .last .1 .0) (c .before .odd-keys .last .0) (c .before .before .before .before .before .before .before .before .before .before .before .before .before .before .pre .1) (c .before .before .before .before .before .before .before .before .before .before .before .before .before .before .pre .3) (c .before .before .before .before .before .before .before .before .helper-key .ensures .1) (c .before .before .before .before .even-keys .ensures) (c .before .odd-keys .ensures) ∙ ap (scheduleOf (c .before .before .before .before .before .before .before .before .before .before .before .before .before .before .args .c) (c .before .before .before .before .before .before .before .before .before .before .before .before .before .before .args .kc) (c .before .before .before .before .before .before .before .before .before .before .before .before .before .before .args .r)) (loaded (c .before .before .before .before .before .before .before .before .before .before .before .before .before .before .args .kc) (now (c .before .before .before .before .before .before .before .before .before .before .before .before .before .before .args .key)) (c .before .before .before .before .before .before .before .before .before .before .before .load .last .0) (noughts 8) (c .before .before .before .before .before .before .before .before .before .before .before .load .ensures))
 

@@ -23,45 +23,35 @@ Inv-loop k₀ b n j₀ k j = (j ≤ n) × (length k ≡ length k₀) × (take j 
 abbrev μ-loop : tie.MeasureT-loop
 μ-loop k₀ b n j₀ k j = n - j
 
--- src/lib.rt:35:5
 loop-holds : tie.Need-loop-holds Inv-loop μ-loop
 unfolding columnsOf tab
 loop-holds c = (omega arith, refl, refl, refl)
 
--- src/lib.rt:36:29
 mul-bytes-at : tie.Need-mul-bytes-at Inv-loop μ-loop
 mul-bytes-at c = search needs
 
--- src/lib.rt:36:16
 bytes-at-requires : tie.Need-bytes-at-requires Inv-loop μ-loop
 bytes-at-requires c κs = search needs
 
--- src/lib.rt:36:9
 mul-k : tie.Need-mul-k Inv-loop μ-loop
 mul-k c = omega (arith, c .before .before .loop .inv .1, c .before .before .before .before .before .good)
 
--- src/lib.rt:36:9
 slice-write-k : tie.Need-slice-write-k Inv-loop μ-loop
 slice-write-k c = omega (arith, c .before .before .loop .inv .1)
 
--- src/lib.rt:37:9
 add-j : tie.Need-add-j Inv-loop μ-loop
 add-j c = search needs
 
--- src/lib.rt:35:5
 loop-less : tie.Need-loop-less Inv-loop μ-loop
 loop-less c = search needs
 
--- src/lib.rt:35:5
 loop-again : tie.Need-loop-again Inv-loop μ-loop
 unfolding columnsOf
 loop-again c = (omega arith, length-set (c .before .before .loop .k) (c .before .before .loop .j) (c .bytes-at .result) ∙ c .before .before .loop .inv .1, fill (λ j. pack 8 (λ i. getD (now (c .before .before .before .before .before .args .b)) (8 * j + i) 0)) (c .before .before .loop .k) (c .before .before .loop .j) (c .bytes-at .result) (c .before .before .loop .inv .2) (omega (arith, c .before .before .loop .inv .1)) (c .bytes-at .ensures), drop-set-lt (c .before .before .loop .j + 1) (c .before .before .loop .k) (c .before .before .loop .j) (c .bytes-at .result) (omega arith) ∙ drop-more (c .before .before .loop .j) (c .before .before .loop .k) (now (c .before .before .before .before .before .args .k)) (c .before .before .loop .inv .3))
 
--- src/lib.rt:30:1
 same-length : tie.Need-same-length Inv-loop μ-loop
 same-length c = c .before .loop .inv .1
 
--- src/lib.rt:30:1
 returns : tie.Need-returns Inv-loop μ-loop
 returns c = sym (take-append-drop (c .before .loop .j) (c .before .loop .k)) ∙ ap₂ (λ (x y : List ℕ). x ++ y) (c .before .loop .inv .2) (c .before .loop .inv .3) ∙ subst (λ m. columnsOf (c .before .loop .j) (now (c .before .before .before .before .args .b)) ++ drop (c .before .loop .j) (now (c .before .before .before .before .args .k)) ≡ columnsOf m (now (c .before .before .before .before .args .b)) ++ drop m (now (c .before .before .before .before .args .k))) (omega arith) refl
 

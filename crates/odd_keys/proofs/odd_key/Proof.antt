@@ -22,91 +22,69 @@ Inv-loop ks₀ at c q j₀ ks j = (j ≤ c) × Stored (at + c) j (λ j. oddWord 
 abbrev μ-loop : tie.MeasureT-loop
 μ-loop ks₀ at c q j₀ ks j = c - j
 
--- src/lib.rt:171:5
 loop-holds : tie.Need-loop-holds Inv-loop μ-loop
 loop-holds c = (omega arith, stored-none (c .before .args .at + c .before .args .c) (λ j. oddWord (c .before .args .c) (getD (now (c .before .args .ks)) (c .before .args .at + (j + c .before .args .c / 4) % c .before .args .c) 0) (getD (now (c .before .args .ks)) (c .before .args .at + (j + c .before .args .c / 4 + 1) % c .before .args .c) 0)) (now (c .before .args .ks)))
 
--- src/lib.rt:172:32
 add-around : tie.Need-add-around Inv-loop μ-loop
 add-around c = omega (arith, width-le (c .before .before .before .args .c) (c .before .before .before .pre .0))
 
--- src/lib.rt:172:25
 around-requires : tie.Need-around-requires Inv-loop μ-loop
 around-requires c κs = c .before .before .before .pre .0
 
--- src/lib.rt:172:20
 add-x : tie.Need-add-x Inv-loop μ-loop
 add-x c = omega (arith, c .before .before .before .before .good, c .around .ensures .1)
 
--- src/lib.rt:172:17
 mul-x : tie.Need-mul-x Inv-loop μ-loop
 mul-x c = omega (arith, c .before .before .before .before .good, c .around .ensures .1)
 
--- src/lib.rt:172:17
 slice-read-x : tie.Need-slice-read-x Inv-loop μ-loop
 slice-read-x c = omega (arith, c .before .before .before .loop .inv .1 .long, c .before .around .ensures .1)
 
--- src/lib.rt:173:32
 add-around-2 : tie.Need-add-around-2 Inv-loop μ-loop
 add-around-2 c = omega (arith, width-le (c .before .before .before .before .before .args .c) (c .before .before .before .before .before .pre .0))
 
--- src/lib.rt:173:32
 add-around-3 : tie.Need-add-around-3 Inv-loop μ-loop
 add-around-3 c = omega (arith, width-le (c .before .before .before .before .before .args .c) (c .before .before .before .before .before .pre .0))
 
--- src/lib.rt:173:25
 around-requires-2 : tie.Need-around-requires-2 Inv-loop μ-loop
 around-requires-2 c κs = c .before .before .before .before .before .pre .0
 
--- src/lib.rt:173:20
 add-y : tie.Need-add-y Inv-loop μ-loop
 add-y c = omega (arith, c .before .before .before .before .before .before .good, c .around2 .ensures .1)
 
--- src/lib.rt:173:17
 mul-y : tie.Need-mul-y Inv-loop μ-loop
 mul-y c = omega (arith, c .before .before .before .before .before .before .good, c .around2 .ensures .1)
 
--- src/lib.rt:173:17
 slice-read-y : tie.Need-slice-read-y Inv-loop μ-loop
 slice-read-y c = omega (arith, c .before .before .before .before .before .loop .inv .1 .long, c .before .around2 .ensures .1)
 
--- src/lib.rt:174:26
 odd-word-requires : tie.Need-odd-word-requires Inv-loop μ-loop
 odd-word-requires c κs = search needs
 
--- src/lib.rt:174:12
 add-ks : tie.Need-add-ks Inv-loop μ-loop
 add-ks c = omega (arith, c .before .before .before .before .before .before .before .before .good)
 
--- src/lib.rt:174:12
 add-ks-2 : tie.Need-add-ks-2 Inv-loop μ-loop
 add-ks-2 c = omega (arith, c .before .before .before .before .before .before .before .before .good)
 
--- src/lib.rt:174:9
 mul-ks : tie.Need-mul-ks Inv-loop μ-loop
 mul-ks c = omega (arith, c .before .before .before .before .before .before .before .before .good)
 
--- src/lib.rt:174:9
 slice-write-ks : tie.Need-slice-write-ks Inv-loop μ-loop
 slice-write-ks c = omega (arith, c .before .before .before .before .before .before .loop .inv .1 .long)
 
--- src/lib.rt:175:9
 add-j : tie.Need-add-j Inv-loop μ-loop
 add-j c = search needs
 
--- src/lib.rt:171:5
 loop-less : tie.Need-loop-less Inv-loop μ-loop
 loop-less c = search needs
 
--- src/lib.rt:171:5
 loop-again : tie.Need-loop-again Inv-loop μ-loop
 loop-again c = (omega arith, odd-turn (c .before .before .before .before .before .before .before .before .args .c) (c .before .before .before .before .before .before .before .before .args .at) (c .before .before .before .before .before .before .loop .j) (c .before .before .before .before .around .result) (c .before .before .around2 .result) (c .odd-word .result) (now (c .before .before .before .before .before .before .before .before .args .ks)) (c .before .before .before .before .before .before .loop .ks) (c .before .before .before .before .before .before .loop .inv .1) (omega arith) (c .before .before .before .before .before .before .before .before .pre .1) (c .before .before .before .before .around .ensures .0) (c .before .before .around2 .ensures .0) (c .odd-word .ensures))
 
--- src/lib.rt:165:1
 same-length : tie.Need-same-length Inv-loop μ-loop
 same-length c = c .before .loop .inv .1 .long
 
--- src/lib.rt:165:1
 returns : tie.Need-returns Inv-loop μ-loop
 returns c = subst (λ m. Stored (c .before .before .before .args .at + c .before .before .before .args .c) m (λ j. oddWord (c .before .before .before .args .c) (getD (now (c .before .before .before .args .ks)) (c .before .before .before .args .at + (j + c .before .before .before .args .c / 4) % c .before .before .before .args .c) 0) (getD (now (c .before .before .before .args .ks)) (c .before .before .before .args .at + (j + c .before .before .before .args .c / 4 + 1) % c .before .before .before .args .c) 0)) (now (c .before .before .before .args .ks)) (c .before .loop .ks)) (omega arith) (c .before .loop .inv .1)
 

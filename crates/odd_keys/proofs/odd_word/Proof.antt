@@ -6,27 +6,21 @@ use Rattle.odd_keys.proofs.odd_word.Tie as tie
 use Rattle.odd_keys.proofs.odd_word.Reads as reads
 use Rattle.odd_keys.proofs.odd_word.Lts as lts
 
--- src/lib.rt:159:40
 mul-result : tie.Need-mul-result
 mul-result c = search needs
 
--- src/lib.rt:159:16
 add-result : tie.Need-add-result
 add-result c = record { fits = part-fits _ _ (c .before .args .x) (c .before .args .y) (omega arith) (omega arith) }
 
--- src/lib.rt:159:9
 returns : tie.Need-returns
 returns c = odd-two (c .before .args .c) (c .before .args .x) (c .before .args .y) (c .if1 .taken)
 
--- src/lib.rt:161:20
 mul-result-2 : tie.Need-mul-result-2
 mul-result-2 c = search needs
 
--- src/lib.rt:161:5
 add-result-2 : tie.Need-add-result-2
 add-result-2 c = record { fits = part-fits _ _ (c .before .args .x) (c .before .args .y) (omega arith) (omega arith) }
 
--- src/lib.rt:155:1
 returns-2 : tie.Need-returns-2
 returns-2 c = odd-more (c .before .args .c) (c .before .args .x) (c .before .args .y) (c .if1 .left)
 

@@ -27,51 +27,39 @@ Inv-loop tab ks c t iv text e₀ out₀ q i₀ at₀ e out i at = (i ≤ q) × (
 abbrev μ-loop : tie.MeasureT-loop
 μ-loop tab ks c t iv text e₀ out₀ q i₀ at₀ e out i at = q - i
 
--- src/lib.rt:116:5
 load-requires : tie.Need-load-requires Inv-loop μ-loop
 load-requires c κs = (omega (arith, c .before .before .before .before .before .before .pre .6), omega (arith, c .before .before .before .before .before .before .pre .5))
 
--- src/lib.rt:119:5
 loop-holds : tie.Need-loop-holds Inv-loop μ-loop
 loop-holds c = (omega arith, sym (zero-mul (8 * (c .before .before .before .before .before .before .before .before .before .args .c))), omega (arith, c .before .before .load .kept .0), ends.ofb-start (c .before .before .before .before .before .before .before .before .before .args .c) (c .before .before .before .before .before .before .before .before .before .args .t) (keysOf (c .before .before .before .before .before .before .before .before .before .args .c) (now (c .before .before .before .before .before .before .before .before .before .args .ks))) (now (c .before .before .before .before .before .before .before .before .before .args .iv)) (now (c .before .before .before .before .before .before .before .before .before .args .text)) (now (c .before .before .before .before .before .before .before .before .before .args .gamma)) (c .before .before .load .last .0) (λ n. omega (arith, c .before .before .before .before .before .before .before .shared-slice-known2 .given n)) (c .before .before .before .before .before .before .before .before .before .pre .6) (c .before .before .load .ensures), out.written-none (added (8 * (c .before .before .before .before .before .before .before .before .before .args .c)) (ofbGamma (sealBytes (c .before .before .before .before .before .before .before .before .before .args .c) (c .before .before .before .before .before .before .before .before .before .args .t) (keysOf (c .before .before .before .before .before .before .before .before .before .args .c) (now (c .before .before .before .before .before .before .before .before .before .args .ks)))) (now (c .before .before .before .before .before .before .before .before .before .args .iv))) (front (8 * (c .before .before .before .before .before .before .before .before .before .args .c))) (now (c .before .before .before .before .before .before .before .before .before .args .text))) (now (c .before .before .before .before .before .before .before .before .before .args .out)))
 
--- src/lib.rt:120:9
 seal-blocks-requires : tie.Need-seal-blocks-requires Inv-loop μ-loop
 seal-blocks-requires c κs = (c .before .before .before .before .before .before .before .before .before .before .before .before .pre .0, c .before .before .before .before .before .before .before .before .before .before .before .before .pre .1, c .before .before .before .before .before .before .before .before .before .before .before .before .pre .2, omega (arith, c .before .before .loop .inv .2, c .before .before .before .before .before .load .kept .0, c .before .before .before .before .before .before .before .before .before .before .before .before .pre .6), c .before .before .before .before .before .before .before .before .before .before .before .before .pre .4, c .before .before .before .before .before .before .before .before .before .before .before .before .pre .3)
 
--- src/lib.rt:121:9
 xor-out-requires : tie.Need-xor-out-requires Inv-loop μ-loop
 xor-out-requires c κs = (omega (arith, c .before .before .before .before .seal-blocks .kept .1 .0, c .before .before .before .before .before .before .before .loop .inv .2, c .before .before .before .before .before .before .before .before .before .before .load .kept .0, c .before .before .before .before .before .before .before .before .before .before .before .before .before .before .before .before .before .pre .6), omega (arith, c .before .before .before .before .before .before .before .loop .inv .1, widths.next-whole (8 * (c .before .before .before .before .before .before .before .before .before .before .before .before .before .before .before .before .before .args .c)) (c .before .before .before .before .before .before .before .loop .i) (c .before .before .before .before .before .before .before .before .before .before .before .before .before .before .before .before .before .args .q) (length (now (c .before .before .before .before .before .before .before .before .before .before .before .before .before .before .before .before .before .args .text))) (omega arith) (c .before .before .before .before .before .before .before .before .before .before .before .before .before .before .before .before .before .pre .7)), omega (arith, c .before .before .before .before .before .before .before .loop .inv .1, c .before .before .before .before .before .before .before .loop .inv .4 .long, c .before .before .before .before .before .before .before .before .before .before .before .before .before .before .before .before .before .pre .8, widths.next-whole (8 * (c .before .before .before .before .before .before .before .before .before .before .before .before .before .before .before .before .before .args .c)) (c .before .before .before .before .before .before .before .loop .i) (c .before .before .before .before .before .before .before .before .before .before .before .before .before .before .before .before .before .args .q) (length (now (c .before .before .before .before .before .before .before .before .before .before .before .before .before .before .before .before .before .args .text))) (omega arith) (c .before .before .before .before .before .before .before .before .before .before .before .before .before .before .before .before .before .pre .7)))
 
--- src/lib.rt:122:15
 mul-at : tie.Need-mul-at Inv-loop μ-loop
 mul-at c = omega (arith, width-pos (c .before .before .before .before .before .before .before .before .before .before .before .before .before .before .before .before .before .before .before .before .args .c) (c .before .before .before .before .before .before .before .before .before .before .before .before .before .before .before .before .before .before .before .before .pre .1), width-le (c .before .before .before .before .before .before .before .before .before .before .before .before .before .before .before .before .before .before .before .before .args .c) (c .before .before .before .before .before .before .before .before .before .before .before .before .before .before .before .before .before .before .before .before .pre .1))
 
--- src/lib.rt:122:9
 add-at : tie.Need-add-at Inv-loop μ-loop
 add-at c = omega (arith, c .before .before .before .before .before .before .before .before .before .before .loop .inv .1, c .before .before .before .before .before .before .before .before .before .before .before .before .before .before .before .before .before .before .before .before .good, widths.next-whole (8 * (c .before .before .before .before .before .before .before .before .before .before .before .before .before .before .before .before .before .before .before .before .args .c)) (c .before .before .before .before .before .before .before .before .before .before .loop .i) (c .before .before .before .before .before .before .before .before .before .before .before .before .before .before .before .before .before .before .before .before .args .q) (length (now (c .before .before .before .before .before .before .before .before .before .before .before .before .before .before .before .before .before .before .before .before .args .text))) (omega arith) (c .before .before .before .before .before .before .before .before .before .before .before .before .before .before .before .before .before .before .before .before .pre .7))
 
--- src/lib.rt:123:9
 add-i : tie.Need-add-i Inv-loop μ-loop
 add-i c = search needs
 
--- src/lib.rt:119:5
 loop-less : tie.Need-loop-less Inv-loop μ-loop
 loop-less c = search needs
 
--- src/lib.rt:119:5
 loop-again : tie.Need-loop-again Inv-loop μ-loop
 loop-again c = (omega arith, widths.next-at (8 * (c .before .before .before .before .before .before .before .before .before .before .before .before .before .before .before .before .before .before .before .before .args .c)) (c .before .before .before .before .before .before .before .before .before .before .loop .i) (c .before .before .before .before .before .before .before .before .before .before .loop .at) (c .before .before .before .before .before .before .before .before .before .before .loop .inv .1), omega (arith, c .before .before .before .before .before .before .before .seal-blocks .kept .1 .0, c .before .before .before .before .before .before .before .before .before .before .loop .inv .2), modes.ofb-next (c .before .before .before .before .before .before .before .before .before .before .before .before .before .before .before .before .before .before .before .before .args .c) (c .before .before .before .before .before .before .before .before .before .before .before .before .before .before .before .before .before .before .before .before .args .t) (keysOf (c .before .before .before .before .before .before .before .before .before .before .before .before .before .before .before .before .before .before .before .before .args .c) (now (c .before .before .before .before .before .before .before .before .before .before .before .before .before .before .before .before .before .before .before .before .args .ks))) (now (c .before .before .before .before .before .before .before .before .before .before .before .before .before .before .before .before .before .before .before .before .args .iv)) (c .before .before .before .before .before .before .before .before .before .before .loop .gamma) (c .before .before .before .before .before .before .before .seal-blocks .last .1 .0) (c .before .before .before .before .before .before .before .before .before .before .loop .i) (c .before .before .before .before .before .before .before .before .before .before .loop .inv .3) (c .before .before .before .before .before .before .before .seal-blocks .ensures), ends.whole-added (c .before .before .before .before .before .before .before .before .before .before .before .before .before .before .before .before .before .before .before .before .args .c) (ofbGamma (sealBytes (c .before .before .before .before .before .before .before .before .before .before .before .before .before .before .before .before .before .before .before .before .args .c) (c .before .before .before .before .before .before .before .before .before .before .before .before .before .before .before .before .before .before .before .before .args .t) (keysOf (c .before .before .before .before .before .before .before .before .before .before .before .before .before .before .before .before .before .before .before .before .args .c) (now (c .before .before .before .before .before .before .before .before .before .before .before .before .before .before .before .before .before .before .before .before .args .ks)))) (now (c .before .before .before .before .before .before .before .before .before .before .before .before .before .before .before .before .before .before .before .before .args .iv))) (front (8 * (c .before .before .before .before .before .before .before .before .before .before .before .before .before .before .before .before .before .before .before .before .args .c))) (now (c .before .before .before .before .before .before .before .before .before .before .before .before .before .before .before .before .before .before .before .before .args .text)) (c .before .before .before .before .before .before .before .before .before .before .loop .i) (c .before .before .before .before .before .before .before .before .before .before .loop .at) (c .before .before .before .before .before .before .before .seal-blocks .last .1 .0) (now (c .before .before .before .before .before .before .before .before .before .before .before .before .before .before .before .before .before .before .before .before .args .out)) (c .before .before .before .before .before .before .before .before .before .before .loop .out) (c .before .before .xor-out .last .1 .1 .1 .0) (c .before .before .before .before .before .before .before .before .before .before .loop .inv .4) (c .before .before .before .before .before .before .before .before .before .before .loop .inv .1) (modes.ofb-sealed (c .before .before .before .before .before .before .before .before .before .before .before .before .before .before .before .before .before .before .before .before .args .c) (c .before .before .before .before .before .before .before .before .before .before .before .before .before .before .before .before .before .before .before .before .args .t) (keysOf (c .before .before .before .before .before .before .before .before .before .before .before .before .before .before .before .before .before .before .before .before .args .c) (now (c .before .before .before .before .before .before .before .before .before .before .before .before .before .before .before .before .before .before .before .before .args .ks))) (now (c .before .before .before .before .before .before .before .before .before .before .before .before .before .before .before .before .before .before .before .before .args .iv)) (c .before .before .before .before .before .before .before .before .before .before .loop .gamma) (c .before .before .before .before .before .before .before .seal-blocks .last .1 .0) (c .before .before .before .before .before .before .before .before .before .before .loop .i) (c .before .before .before .before .before .before .before .before .before .before .loop .inv .3) (c .before .before .before .before .before .before .before .seal-blocks .ensures)) (λ j l. ends.front-place (8 * (c .before .before .before .before .before .before .before .before .before .before .before .before .before .before .before .before .before .before .before .before .args .c)) (c .before .before .before .before .before .before .before .before .before .before .loop .i) j l) (c .before .before .xor-out .ensures) (omega (arith, c .before .before .before .before .before .before .before .before .before .before .loop .inv .1, c .before .before .before .before .before .before .before .before .before .before .before .before .before .before .before .before .before .before .before .before .pre .8, widths.next-whole (8 * (c .before .before .before .before .before .before .before .before .before .before .before .before .before .before .before .before .before .before .before .before .args .c)) (c .before .before .before .before .before .before .before .before .before .before .loop .i) (c .before .before .before .before .before .before .before .before .before .before .before .before .before .before .before .before .before .before .before .before .args .q) (length (now (c .before .before .before .before .before .before .before .before .before .before .before .before .before .before .before .before .before .before .before .before .args .text))) (omega arith) (c .before .before .before .before .before .before .before .before .before .before .before .before .before .before .before .before .before .before .before .before .pre .7))))
 
--- src/lib.rt:112:1
 same-length : tie.Need-same-length Inv-loop μ-loop
 same-length c = omega (arith, c .before .loop .inv .2, c .before .before .before .before .load .kept .0)
 
--- src/lib.rt:112:1
 same-length-2 : tie.Need-same-length-2 Inv-loop μ-loop
 same-length-2 c = c .before .loop .inv .4 .long
 
--- src/lib.rt:112:1
 returns : tie.Need-returns Inv-loop μ-loop
 returns c = (subst (λ n. blockAt (c .before .before .before .before .before .before .before .before .before .before .before .args .c) (c .before .loop .gamma) 0 ≡ columnsOf (c .before .before .before .before .before .before .before .before .before .before .before .args .c) (ofbFed (sealBytes (c .before .before .before .before .before .before .before .before .before .before .before .args .c) (c .before .before .before .before .before .before .before .before .before .before .before .args .t) (keysOf (c .before .before .before .before .before .before .before .before .before .before .before .args .c) (now (c .before .before .before .before .before .before .before .before .before .before .before .args .ks)))) (now (c .before .before .before .before .before .before .before .before .before .before .before .args .iv)) n)) (omega arith) (c .before .loop .inv .3), subst (λ n. Written (added (8 * (c .before .before .before .before .before .before .before .before .before .before .before .args .c)) (ofbGamma (sealBytes (c .before .before .before .before .before .before .before .before .before .before .before .args .c) (c .before .before .before .before .before .before .before .before .before .before .before .args .t) (keysOf (c .before .before .before .before .before .before .before .before .before .before .before .args .c) (now (c .before .before .before .before .before .before .before .before .before .before .before .args .ks)))) (now (c .before .before .before .before .before .before .before .before .before .before .before .args .iv))) (front (8 * (c .before .before .before .before .before .before .before .before .before .before .before .args .c))) (now (c .before .before .before .before .before .before .before .before .before .before .before .args .text))) n (now (c .before .before .before .before .before .before .before .before .before .before .before .args .out)) (c .before .loop .out)) (widths.ended (8 * (c .before .before .before .before .before .before .before .before .before .before .before .args .c)) (c .before .loop .i) (c .before .before .before .before .before .before .before .before .before .before .before .args .q) (c .before .loop .at) (omega arith) (c .before .loop .inv .1)) (c .before .loop .inv .4))
 

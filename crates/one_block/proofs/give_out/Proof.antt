@@ -11,15 +11,12 @@ use Rattle.one_block.proofs.give_out.Reads as reads
 use Rattle.one_block.proofs.give_out.Lts as lts
 use Rattle.cells.proofs.store.Reads as store-reads
 
--- src/lib.rt:41:5
 store-requires : tie.Need-store-requires
 store-requires c κs = search needs
 
--- src/lib.rt:37:1
 same-length : tie.Need-same-length
 same-length c = search needs
 
--- src/lib.rt:37:1
 returns : tie.Need-returns
 returns c = c .before .before .store .ensures ∙ ap (λ x. take (c .before .before .before .before .before .before .args .at) (now (c .before .before .before .before .before .before .args .o)) ++ (x ++ drop (c .before .before .before .before .before .before .args .at + 8 * c .before .before .before .before .before .before .args .c) (now (c .before .before .before .before .before .before .args .o)))) (stored (c .before .before .before .before .before .before .args .c) (now (c .before .before .before .before .before .before .args .s)))
 

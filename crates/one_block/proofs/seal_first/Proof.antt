@@ -9,15 +9,12 @@ use Rattle.one_block.proofs.seal_first.Reads as reads
 use Rattle.one_block.proofs.seal_first.Lts as lts
 use Rattle.seal_block.proofs.seal_blocks.Reads as seal-blocks-reads
 
--- src/lib.rt:33:5
 seal-blocks-requires : tie.Need-seal-blocks-requires
 seal-blocks-requires c κs = search needs
 
--- src/lib.rt:29:1
 same-length : tie.Need-same-length
 same-length c = search needs
 
--- src/lib.rt:29:1
 returns : tie.Need-returns
 returns c = held-seal (c .before .before .before .before .before .before .args .c) (c .before .before .before .before .before .before .args .t) (keysOf (c .before .before .before .before .before .before .args .c) (now (c .before .before .before .before .before .before .args .ks))) (now (c .before .before .before .before .before .before .args .s)) (c .before .before .seal-blocks .last .1 .0) (λ n. omega (arith, c .before .before .before .before .before .slice-known .given n)) (c .before .before .seal-blocks .ensures)
 

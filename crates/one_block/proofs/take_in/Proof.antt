@@ -8,15 +8,12 @@ use Rattle.one_block.proofs.take_in.Reads as reads
 use Rattle.one_block.proofs.take_in.Lts as lts
 use Rattle.cells.proofs.load.Reads as load-reads
 
--- src/lib.rt:17:5
 load-requires : tie.Need-load-requires
 load-requires c κs = search needs
 
--- src/lib.rt:13:1
 same-length : tie.Need-same-length
 same-length c = search needs
 
--- src/lib.rt:13:1
 returns : tie.Need-returns
 returns c = held-load (c .before .before .before .before .before .before .args .c) (c .before .before .before .before .before .before .args .at) (now (c .before .before .before .before .before .before .args .b)) (λ n. omega (arith, c .before .before .before .before .shared-slice-known .given n)) (c .before .before .before .before .before .before .pre .1) (now (c .before .before .before .before .before .before .args .s)) (c .before .before .load .last .0) (c .before .before .before .before .before .before .pre .0) (c .before .before .load .ensures)
 

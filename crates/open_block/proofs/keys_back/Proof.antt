@@ -14,51 +14,39 @@ Inv-loop t p ks₀ c r end k₀ ks k = (c ≤ k) × (k ≤ c * r) × Unmixed c k
 abbrev μ-loop : tie.MeasureT-loop
 μ-loop t p ks₀ c r end k₀ ks k = c * r - k
 
--- src/lib.rt:76:15
 mul-end : tie.Need-mul-end Inv-loop μ-loop
 mul-end c = omega (arith, c .before .good)
 
--- src/lib.rt:78:5
 loop-holds : tie.Need-loop-holds Inv-loop μ-loop
 loop-holds c = (omega arith, first-key (c .before .args .c) (c .before .args .r) (c .before .pre .2), unmixed-none (c .before .args .c) (now (c .before .args .ks)))
 
--- src/lib.rt:79:17
 mul-x : tie.Need-mul-x Inv-loop μ-loop
 mul-x c = search needs
 
--- src/lib.rt:79:17
 slice-read-x : tie.Need-slice-read-x Inv-loop μ-loop
 slice-read-x c = omega (arith, c .before .before .loop .inv .2 .long)
 
--- src/lib.rt:80:17
 swap-requires : tie.Need-swap-requires Inv-loop μ-loop
 swap-requires c κs = search needs
 
--- src/lib.rt:80:9
 mul-ks : tie.Need-mul-ks Inv-loop μ-loop
 mul-ks c = search needs
 
--- src/lib.rt:80:9
 slice-write-ks : tie.Need-slice-write-ks Inv-loop μ-loop
 slice-write-ks c = omega (arith, c .before .before .before .loop .inv .2 .long)
 
--- src/lib.rt:81:9
 add-k : tie.Need-add-k Inv-loop μ-loop
 add-k c = search needs
 
--- src/lib.rt:78:5
 loop-less : tie.Need-loop-less Inv-loop μ-loop
 loop-less c = search needs
 
--- src/lib.rt:78:5
 loop-again : tie.Need-loop-again Inv-loop μ-loop
 loop-again c = (omega arith, omega arith, unmixed-more (c .before .before .before .before .before .args .c) (c .before .before .before .loop .k) (now (c .before .before .before .before .before .args .t)) (now (c .before .before .before .before .before .args .p)) (now (c .before .before .before .before .before .args .ks)) (c .before .before .before .loop .ks) (c .swap .result) (c .before .before .before .before .before .pre .0) (c .before .before .before .before .before .pre .1) (c .before .before .before .loop .inv .0) (omega arith) (c .before .before .before .loop .inv .2) (c .swap .ensures))
 
--- src/lib.rt:72:1
 same-length : tie.Need-same-length Inv-loop μ-loop
 same-length c = c .before .loop .inv .2 .long
 
--- src/lib.rt:72:1
 returns : tie.Need-returns Inv-loop μ-loop
 returns c = subst (λ e. Unmixed (c .before .before .before .args .c) e (now (c .before .before .before .args .ks)) (c .before .loop .ks)) (omega arith) (c .before .loop .inv .2)
 

@@ -8,27 +8,21 @@ use borrow.Author.Needs.{needs}
 use Rattle.open_block.proofs.low_at.Statement.{statement}
 use Rattle.open_block.proofs.low_at.Tie as tie
 
--- src/lib.rt:32:12
 mul-wide : tie.Need-mul-wide
 mul-wide c = search needs
 
--- src/lib.rt:32:22
 place-requires : tie.Need-place-requires
 place-requires c κs = search needs
 
--- src/lib.rt:32:12
 add-wide : tie.Need-add-wide
 add-wide c = search needs
 
--- src/lib.rt:32:10
 element-copy-out-wide : tie.Need-element-copy-out-wide
 element-copy-out-wide c = search needs
 
--- src/lib.rt:32:5
 wide-requires : tie.Need-wide-requires
 wide-requires c κs = search needs
 
--- src/lib.rt:28:1
 returns : tie.Need-returns
 returns c = ap (λ x. x % 256) (c .wide .ensures .0) ∙ low (getD (now (c .before .before .before .args .p)) (256 * c .before .before .before .args .i + c .before .before .place .result) 0) (omega (arith, c .wide .ensures .0, c .wide .ensures .1)) ∙ ap (λ x. getD (now (c .before .before .before .args .p)) (256 * c .before .before .before .args .i + x) 0) (c .before .before .place .ensures)
 

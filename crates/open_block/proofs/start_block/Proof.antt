@@ -17,64 +17,49 @@ Inv-loop t p s₀ w c ks at j₀ s j = (j ≤ c) × (s ≡ putWords s₀ w j (λ
 abbrev μ-loop : tie.MeasureT-loop
 μ-loop t p s₀ w c ks at j₀ s j = c - j
 
--- src/lib.rt:103:5
 loop-holds : tie.Need-loop-holds Inv-loop μ-loop
 unfolding putWords
 loop-holds c = (omega arith, refl)
 
--- src/lib.rt:104:35
 add-word-at : tie.Need-add-word-at Inv-loop μ-loop
 add-word-at c = search needs
 
--- src/lib.rt:104:13
 word-at-requires : tie.Need-word-at-requires Inv-loop μ-loop
 word-at-requires c κs = omega (arith, ap length (c .before .before .loop .inv .1), length-puts (now (c .before .before .before .before .before .args .s)) (c .before .before .before .before .before .args .w) (c .before .before .loop .j) (λ j. swapped (now (c .before .before .before .before .before .args .t)) (now (c .before .before .before .before .before .args .p)) ((wordAt (now (c .before .before .before .before .before .args .s)) (c .before .before .before .before .before .args .w + j) + 2 ^ 64 - getD (now (c .before .before .before .before .before .args .ks)) (c .before .before .before .before .before .args .at + j) 0 % 2 ^ 64) % 2 ^ 64)))
 
--- src/lib.rt:105:28
 add-put-word : tie.Need-add-put-word Inv-loop μ-loop
 add-put-word c = search needs
 
--- src/lib.rt:105:79
 add-wrapping-sub-u64 : tie.Need-add-wrapping-sub-u64 Inv-loop μ-loop
 add-wrapping-sub-u64 c = search needs
 
--- src/lib.rt:105:76
 mul-wrapping-sub-u64 : tie.Need-mul-wrapping-sub-u64 Inv-loop μ-loop
 mul-wrapping-sub-u64 c = search needs
 
--- src/lib.rt:105:76
 shared-slice-read-wrapping-sub-u64 : tie.Need-shared-slice-read-wrapping-sub-u64 Inv-loop μ-loop
 shared-slice-read-wrapping-sub-u64 c = search needs
 
--- src/lib.rt:105:46
 wrapping-sub-u64-requires : tie.Need-wrapping-sub-u64-requires Inv-loop μ-loop
 wrapping-sub-u64-requires c κs = search needs
 
--- src/lib.rt:105:35
 swap-requires : tie.Need-swap-requires Inv-loop μ-loop
 swap-requires c κs = search needs
 
--- src/lib.rt:105:9
 put-word-requires : tie.Need-put-word-requires Inv-loop μ-loop
 put-word-requires c κs = omega (arith, ap length (c .before .before .before .before .before .before .before .loop .inv .1), length-puts (now (c .before .before .before .before .before .before .before .before .before .before .args .s)) (c .before .before .before .before .before .before .before .before .before .before .args .w) (c .before .before .before .before .before .before .before .loop .j) (λ j. swapped (now (c .before .before .before .before .before .before .before .before .before .before .args .t)) (now (c .before .before .before .before .before .before .before .before .before .before .args .p)) ((wordAt (now (c .before .before .before .before .before .before .before .before .before .before .args .s)) (c .before .before .before .before .before .before .before .before .before .before .args .w + j) + 2 ^ 64 - getD (now (c .before .before .before .before .before .before .before .before .before .before .args .ks)) (c .before .before .before .before .before .before .before .before .before .before .args .at + j) 0 % 2 ^ 64) % 2 ^ 64)))
 
--- src/lib.rt:106:9
 add-j : tie.Need-add-j Inv-loop μ-loop
 add-j c = search needs
 
--- src/lib.rt:103:5
 loop-less : tie.Need-loop-less Inv-loop μ-loop
 loop-less c = search needs
 
--- src/lib.rt:103:5
 loop-again : tie.Need-loop-again Inv-loop μ-loop
 loop-again c = (omega arith, puts-more (now (c .before .before .before .before .before .before .before .before .before .before .before .before .before .args .s)) (c .before .before .before .before .before .before .before .before .before .before .loop .s) (c .before .before .put-word .last .0) (c .before .before .before .before .before .before .before .before .before .before .before .before .before .args .w) (c .before .before .before .before .before .before .before .before .before .before .loop .j) (λ j. swapped (now (c .before .before .before .before .before .before .before .before .before .before .before .before .before .args .t)) (now (c .before .before .before .before .before .before .before .before .before .before .before .before .before .args .p)) ((wordAt (now (c .before .before .before .before .before .before .before .before .before .before .before .before .before .args .s)) (c .before .before .before .before .before .before .before .before .before .before .before .before .before .args .w + j) + 2 ^ 64 - getD (now (c .before .before .before .before .before .before .before .before .before .before .before .before .before .args .ks)) (c .before .before .before .before .before .before .before .before .before .before .before .before .before .args .at + j) 0 % 2 ^ 64) % 2 ^ 64)) _ (c .before .before .before .before .before .before .before .before .before .before .loop .inv .1) (c .before .before .put-word .ensures) (c .before .before .before .swap .ensures ∙ ap (swapped (now (c .before .before .before .before .before .before .before .before .before .before .before .before .before .args .t)) (now (c .before .before .before .before .before .before .before .before .before .before .before .before .before .args .p))) (sub-is (getD (now (c .before .before .before .before .before .before .before .before .before .before .before .before .before .args .ks)) (c .before .before .before .before .before .before .before .before .before .before .before .before .before .args .at + c .before .before .before .before .before .before .before .before .before .before .loop .j) 0) _ _ (c .before .before .before .before .wrapping-sub-u64 .ensures) (omega (arith, c .before .before .before .before .before .before .before .before .before .before .before .shared-slice-known .given (c .before .before .before .before .before .before .before .before .before .before .before .before .before .args .at + c .before .before .before .before .before .before .before .before .before .before .loop .j))) (c .before .before .before .before .wrapping-sub-u64 .ok) ∙ ap (λ x. (x + 2 ^ 64 - getD (now (c .before .before .before .before .before .before .before .before .before .before .before .before .before .args .ks)) (c .before .before .before .before .before .before .before .before .before .before .before .before .before .args .at + c .before .before .before .before .before .before .before .before .before .before .loop .j) 0 % 2 ^ 64) % 2 ^ 64) (c .before .before .before .before .before .before .before .word-at .ensures ∙ puts-next (now (c .before .before .before .before .before .before .before .before .before .before .before .before .before .args .s)) (c .before .before .before .before .before .before .before .before .before .before .loop .s) (c .before .before .before .before .before .before .before .before .before .before .before .before .before .args .w) (c .before .before .before .before .before .before .before .before .before .before .loop .j) (λ j. swapped (now (c .before .before .before .before .before .before .before .before .before .before .before .before .before .args .t)) (now (c .before .before .before .before .before .before .before .before .before .before .before .before .before .args .p)) ((wordAt (now (c .before .before .before .before .before .before .before .before .before .before .before .before .before .args .s)) (c .before .before .before .before .before .before .before .before .before .before .before .before .before .args .w + j) + 2 ^ 64 - getD (now (c .before .before .before .before .before .before .before .before .before .before .before .before .before .args .ks)) (c .before .before .before .before .before .before .before .before .before .before .before .before .before .args .at + j) 0 % 2 ^ 64) % 2 ^ 64)) (c .before .before .before .before .before .before .before .before .before .before .loop .inv .1)))))
 
--- src/lib.rt:98:1
 same-length : tie.Need-same-length Inv-loop μ-loop
 same-length c = ap length (c .before .loop .inv .1) ∙ length-puts (now (c .before .before .before .before .args .s)) (c .before .before .before .before .args .w) (c .before .loop .j) (λ j. swapped (now (c .before .before .before .before .args .t)) (now (c .before .before .before .before .args .p)) ((wordAt (now (c .before .before .before .before .args .s)) (c .before .before .before .before .args .w + j) + 2 ^ 64 - getD (now (c .before .before .before .before .args .ks)) (c .before .before .before .before .args .at + j) 0 % 2 ^ 64) % 2 ^ 64))
 
--- src/lib.rt:98:1
 returns : tie.Need-returns Inv-loop μ-loop
 returns c = c .before .loop .inv .1 ∙ ap (λ n. putWords (now (c .before .before .before .before .args .s)) (c .before .before .before .before .args .w) n (λ j. swapped (now (c .before .before .before .before .args .t)) (now (c .before .before .before .before .args .p)) ((wordAt (now (c .before .before .before .before .args .s)) (c .before .before .before .before .args .w + j) + 2 ^ 64 - getD (now (c .before .before .before .before .args .ks)) (c .before .before .before .before .args .at + j) 0 % 2 ^ 64) % 2 ^ 64))) (omega arith)
 

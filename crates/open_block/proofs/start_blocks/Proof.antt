@@ -21,35 +21,27 @@ Inv-loop t p s₀ n c ks at i₀ w₀ s i w = (i ≤ n) × (w ≡ c * i) × Walk
 abbrev μ-loop : tie.MeasureT-loop
 μ-loop t p s₀ n c ks at i₀ w₀ s i w = n - i
 
--- src/lib.rt:136:5
 loop-holds : tie.Need-loop-holds Inv-loop μ-loop
 loop-holds c = (omega arith, sym (mul-zero (c .before .before .args .c)), walk-none (c .before .before .args .c) (firstRound (c .before .before .args .c) (keyAt (c .before .before .args .c) (now (c .before .before .args .ks)) (c .before .before .args .at))) (now (c .before .before .args .s)))
 
--- src/lib.rt:137:9
 start-block-requires : tie.Need-start-block-requires Inv-loop μ-loop
 start-block-requires c κs = omega (arith, room (c .before .before .before .before .before .args .c) (c .before .before .loop .i) (c .before .before .before .before .before .args .n) (length (now (c .before .before .before .before .before .args .s))) (c .before .loop-test .taken) (c .before .before .before .before .before .pre .2), c .before .before .loop .inv .1, c .before .before .loop .inv .2 .long)
 
--- src/lib.rt:138:9
 add-w : tie.Need-add-w Inv-loop μ-loop
 add-w c = omega (arith, room (c .before .before .before .before .before .before .before .before .args .c) (c .before .before .before .before .before .loop .i) (c .before .before .before .before .before .before .before .before .args .n) (length (now (c .before .before .before .before .before .before .before .before .args .s))) (c .before .before .before .before .loop-test .taken) (c .before .before .before .before .before .before .before .before .pre .2), c .before .before .before .before .before .loop .inv .1, c .before .before .before .before .before .before .before .before .good)
 
--- src/lib.rt:139:9
 add-i : tie.Need-add-i Inv-loop μ-loop
 add-i c = search needs
 
--- src/lib.rt:136:5
 loop-less : tie.Need-loop-less Inv-loop μ-loop
 loop-less c = search needs
 
--- src/lib.rt:136:5
 loop-again : tie.Need-loop-again Inv-loop μ-loop
 loop-again c = (omega arith, next-block (c .before .before .before .before .before .before .before .before .args .c) (c .before .before .before .before .before .loop .i) (c .before .before .before .before .before .loop .w) (c .before .before .before .before .before .loop .inv .1), block-more (c .before .before .before .before .before .before .before .before .args .c) (c .before .before .before .before .before .loop .i) (firstRound (c .before .before .before .before .before .before .before .before .args .c) (keyAt (c .before .before .before .before .before .before .before .before .args .c) (now (c .before .before .before .before .before .before .before .before .args .ks)) (c .before .before .before .before .before .before .before .before .args .at))) (now (c .before .before .before .before .before .before .before .before .args .s)) (c .before .before .before .before .before .loop .s) (c .before .before .start-block .last .1 .1 .0) (λ x j. swapped (now (c .before .before .before .before .before .before .before .before .args .t)) (now (c .before .before .before .before .before .before .before .before .args .p)) ((x + 2 ^ 64 - getD (now (c .before .before .before .before .before .before .before .before .args .ks)) (c .before .before .before .before .before .before .before .before .args .at + j) 0 % 2 ^ 64) % 2 ^ 64)) (c .before .before .before .before .before .loop .w) (c .before .before .before .before .before .loop .inv .2) (room (c .before .before .before .before .before .before .before .before .args .c) (c .before .before .before .before .before .loop .i) (c .before .before .before .before .before .before .before .before .args .n) (length (now (c .before .before .before .before .before .before .before .before .args .s))) (c .before .before .before .before .loop-test .taken) (c .before .before .before .before .before .before .before .before .pre .2)) (c .before .before .before .before .before .loop .inv .1) (c .before .before .start-block .ensures) (λ x j. swapped-lt (now (c .before .before .before .before .before .before .before .before .args .t)) (now (c .before .before .before .before .before .before .before .before .args .p)) _ (c .before .before .before .before .before .before .before .before .pre .0) (c .before .before .before .before .before .before .before .before .pre .1)) (λ b. started (c .before .before .before .before .before .before .before .before .args .c) (now (c .before .before .before .before .before .before .before .before .args .t)) (now (c .before .before .before .before .before .before .before .before .args .p)) (now (c .before .before .before .before .before .before .before .before .args .ks)) (c .before .before .before .before .before .before .before .before .args .at) b (c .before .before .before .before .before .before .before .before .pre .0) (c .before .before .before .before .before .before .before .before .pre .1)))
 
--- src/lib.rt:122:1
 same-length : tie.Need-same-length Inv-loop μ-loop
 same-length c = c .before .loop .inv .2 .long
 
--- src/lib.rt:122:1
 returns : tie.Need-returns Inv-loop μ-loop
 returns c = subst (λ m. Walked (c .before .before .before .before .args .c) m (firstRound (c .before .before .before .before .args .c) (keyAt (c .before .before .before .before .args .c) (now (c .before .before .before .before .args .ks)) (c .before .before .before .before .args .at))) (now (c .before .before .before .before .args .s)) (c .before .loop .s)) (omega arith) (c .before .loop .inv .2)
 

@@ -4,43 +4,33 @@ use borrow.Author.Needs.{needs}
 use Rattle.open_block.proofs.swap.Statement.{statement}
 use Rattle.open_block.proofs.swap.Tie as tie
 
--- src/lib.rt:47:9
 low-at-requires : tie.Need-low-at-requires
 low-at-requires c κs = search needs
 
--- src/lib.rt:48:9
 high-at-requires : tie.Need-high-at-requires
 high-at-requires c κs = search needs
 
--- src/lib.rt:49:9
 low-at-requires-2 : tie.Need-low-at-requires-2
 low-at-requires-2 c κs = search needs
 
--- src/lib.rt:50:9
 high-at-requires-2 : tie.Need-high-at-requires-2
 high-at-requires-2 c κs = search needs
 
--- src/lib.rt:51:9
 low-at-requires-3 : tie.Need-low-at-requires-3
 low-at-requires-3 c κs = search needs
 
--- src/lib.rt:52:9
 high-at-requires-3 : tie.Need-high-at-requires-3
 high-at-requires-3 c κs = search needs
 
--- src/lib.rt:53:9
 low-at-requires-4 : tie.Need-low-at-requires-4
 low-at-requires-4 c κs = search needs
 
--- src/lib.rt:54:9
 high-at-requires-4 : tie.Need-high-at-requires-4
 high-at-requires-4 c κs = search needs
 
--- src/lib.rt:55:5
 column-requires : tie.Need-column-requires
 column-requires c κs = search needs
 
--- src/lib.rt:44:1
 returns : tie.Need-returns
 returns c = swap-is (now (c .before .before .before .before .before .before .before .before .before .args .t)) (now (c .before .before .before .before .before .before .before .before .before .args .p)) (c .before .before .before .before .before .before .before .before .before .args .w) (c .column .result) _ _ _ _ _ _ _ _ (c .before .before .before .before .before .before .before .before .low-at .ensures) (c .before .before .before .before .before .before .before .high-at .ensures) (c .before .before .before .before .before .before .low-at2 .ensures) (c .before .before .before .before .before .high-at2 .ensures) (c .before .before .before .before .low-at3 .ensures) (c .before .before .before .high-at3 .ensures) (c .before .before .low-at4 .ensures) (c .before .high-at4 .ensures) (c .column .ensures)
 

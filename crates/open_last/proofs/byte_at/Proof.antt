@@ -6,27 +6,21 @@ use borrow.Author.Needs.{needs}
 use Rattle.open_last.proofs.byte_at.Statement.{statement}
 use Rattle.open_last.proofs.byte_at.Tie as tie
 
--- src/lib.rt:34:12
 mul-wide : tie.Need-mul-wide
 mul-wide c = search needs
 
--- src/lib.rt:34:22
 place-requires : tie.Need-place-requires
 place-requires c κs = search needs
 
--- src/lib.rt:34:12
 add-wide : tie.Need-add-wide
 add-wide c = search needs
 
--- src/lib.rt:34:10
 element-copy-out-wide : tie.Need-element-copy-out-wide
 element-copy-out-wide c = search needs
 
--- src/lib.rt:34:5
 wide-requires : tie.Need-wide-requires
 wide-requires c κs = search needs
 
--- src/lib.rt:30:1
 returns : tie.Need-returns
 returns c = (c .wide .ensures .0 ∙ ap (λ x. getD (now (c .before .before .before .args .u)) (256 * c .before .before .before .args .i + x) 0) (c .before .before .place .ensures), c .wide .ensures .1)
 

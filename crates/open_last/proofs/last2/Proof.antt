@@ -7,35 +7,27 @@ use borrow.Author.Needs.{needs}
 use Rattle.open_last.proofs.last2.Statement.{statement}
 use Rattle.open_last.proofs.last2.Tie as tie
 
--- src/lib.rt:55:9
 word-at-requires : tie.Need-word-at-requires
 word-at-requires c κs = search needs
 
--- src/lib.rt:56:32
 add-word-at : tie.Need-add-word-at
 add-word-at c = search needs
 
--- src/lib.rt:56:9
 word-at-requires-2 : tie.Need-word-at-requires-2
 word-at-requires-2 c κs = search needs
 
--- src/lib.rt:58:12
 column-of-requires : tie.Need-column-of-requires
 column-of-requires c κs = search needs
 
--- src/lib.rt:58:5
 array-write-o : tie.Need-array-write-o
 array-write-o c = search needs
 
--- src/lib.rt:59:12
 column-of-requires-2 : tie.Need-column-of-requires-2
 column-of-requires-2 c κs = search needs
 
--- src/lib.rt:59:5
 array-write-o-2 : tie.Need-array-write-o-2
 array-write-o-2 c = search needs
 
--- src/lib.rt:51:1
 returns : tie.Need-returns
 returns c = record { says = last-2 (now (c .before .before .before .before .before .args .u)) (now (c .before .before .before .before .before .args .s)) (c .before .before .before .before .before .args .w) _ _ _ _ (c .before .before .before .word-at .ensures ∙ ap (wordAt (now (c .before .before .before .before .before .args .s))) (sym (add-zero (c .before .before .before .before .before .args .w)))) (c .before .before .word-at2 .ensures) (c .before .column-of .ensures) (c .column-of2 .ensures) }
 

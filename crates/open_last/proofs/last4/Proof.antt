@@ -7,67 +7,51 @@ use borrow.Author.Needs.{needs}
 use Rattle.open_last.proofs.last4.Statement.{statement}
 use Rattle.open_last.proofs.last4.Tie as tie
 
--- src/lib.rt:68:9
 word-at-requires : tie.Need-word-at-requires
 word-at-requires c κs = search needs
 
--- src/lib.rt:69:32
 add-word-at : tie.Need-add-word-at
 add-word-at c = search needs
 
--- src/lib.rt:69:9
 word-at-requires-2 : tie.Need-word-at-requires-2
 word-at-requires-2 c κs = search needs
 
--- src/lib.rt:70:32
 add-word-at-2 : tie.Need-add-word-at-2
 add-word-at-2 c = search needs
 
--- src/lib.rt:70:9
 word-at-requires-3 : tie.Need-word-at-requires-3
 word-at-requires-3 c κs = search needs
 
--- src/lib.rt:71:32
 add-word-at-3 : tie.Need-add-word-at-3
 add-word-at-3 c = search needs
 
--- src/lib.rt:71:9
 word-at-requires-4 : tie.Need-word-at-requires-4
 word-at-requires-4 c κs = search needs
 
--- src/lib.rt:73:12
 column-of-requires : tie.Need-column-of-requires
 column-of-requires c κs = search needs
 
--- src/lib.rt:73:5
 array-write-o : tie.Need-array-write-o
 array-write-o c = search needs
 
--- src/lib.rt:74:12
 column-of-requires-2 : tie.Need-column-of-requires-2
 column-of-requires-2 c κs = search needs
 
--- src/lib.rt:74:5
 array-write-o-2 : tie.Need-array-write-o-2
 array-write-o-2 c = search needs
 
--- src/lib.rt:75:12
 column-of-requires-3 : tie.Need-column-of-requires-3
 column-of-requires-3 c κs = search needs
 
--- src/lib.rt:75:5
 array-write-o-3 : tie.Need-array-write-o-3
 array-write-o-3 c = search needs
 
--- src/lib.rt:76:12
 column-of-requires-4 : tie.Need-column-of-requires-4
 column-of-requires-4 c κs = search needs
 
--- src/lib.rt:76:5
 array-write-o-4 : tie.Need-array-write-o-4
 array-write-o-4 c = search needs
 
--- src/lib.rt:64:1
 returns : tie.Need-returns
 returns c = record { says = last-4 (now (c .before .before .before .before .before .before .before .before .before .args .u)) (now (c .before .before .before .before .before .before .before .before .before .args .s)) (c .before .before .before .before .before .before .before .before .before .args .w) _ _ _ _ _ _ _ _ (c .before .before .before .before .before .before .before .word-at .ensures ∙ ap (wordAt (now (c .before .before .before .before .before .before .before .before .before .args .s))) (sym (add-zero (c .before .before .before .before .before .before .before .before .before .args .w)))) (c .before .before .before .before .before .before .word-at2 .ensures) (c .before .before .before .before .before .word-at3 .ensures) (c .before .before .before .before .word-at4 .ensures) (c .before .before .before .column-of .ensures) (c .before .before .column-of2 .ensures) (c .before .column-of3 .ensures) (c .column-of4 .ensures) }
 

@@ -17,39 +17,30 @@ Inv-loop u s₀ n ks at i₀ s i = (i ≤ n) × Walked 4 i (lastRound 4 (keyAt 4
 abbrev μ-loop : tie.MeasureT-loop
 μ-loop u s₀ n ks at i₀ s i = n - i
 
--- src/lib.rt:135:5
 loop-holds : tie.Need-loop-holds Inv-loop μ-loop
 loop-holds c = (omega arith, walk-none 4 (lastRound 4 (keyAt 4 (now (c .before .before .args .ks)) (c .before .before .args .at))) (now (c .before .before .args .s)))
 
--- src/lib.rt:136:17
 mul-w : tie.Need-mul-w Inv-loop μ-loop
 mul-w c = search needs
 
--- src/lib.rt:137:13
 last4-requires : tie.Need-last4-requires Inv-loop μ-loop
 last4-requires c κs = omega (arith, c .before .before .loop .inv .1 .long)
 
--- src/lib.rt:138:9
 less-block-requires : tie.Need-less-block-requires Inv-loop μ-loop
 less-block-requires c κs = (omega arith, omega (arith, c .before .before .before .before .loop .inv .1 .long), c .before .before .before .before .before .before .before .pre .2)
 
--- src/lib.rt:139:9
 add-i : tie.Need-add-i Inv-loop μ-loop
 add-i c = search needs
 
--- src/lib.rt:135:5
 loop-less : tie.Need-loop-less Inv-loop μ-loop
 loop-less c = search needs
 
--- src/lib.rt:135:5
 loop-again : tie.Need-loop-again Inv-loop μ-loop
 loop-again c = (omega arith, last-more 4 (c .before .before .before .before .before .before .before .loop .i) (now (c .before .before .before .before .before .before .before .before .before .before .args .u)) (now (c .before .before .before .before .before .before .before .before .before .before .args .ks)) (c .before .before .before .before .before .before .before .before .before .before .args .at) (now (c .before .before .before .before .before .before .before .before .before .before .args .s)) (c .before .before .before .before .before .before .before .loop .s) (c .before .before .less-block .last .0) (4 * c .before .before .before .before .before .before .before .loop .i) (c .before .before .before .before .last4 .result) (c .before .before .before .before .before .before .before .before .before .before .pre .0) refl (c .before .before .before .before .last4 .ensures) (c .before .before .before .before .before .before .before .loop .inv .1) (omega arith) (c .before .before .less-block .ensures))
 
--- src/lib.rt:130:1
 same-length : tie.Need-same-length Inv-loop μ-loop
 same-length c = c .before .loop .inv .1 .long
 
--- src/lib.rt:130:1
 returns : tie.Need-returns Inv-loop μ-loop
 returns c = subst (λ m. Walked 4 m (lastRound 4 (keyAt 4 (now (c .before .before .before .before .args .ks)) (c .before .before .before .before .args .at))) (now (c .before .before .before .before .args .s)) (c .before .loop .s)) (omega arith) (c .before .loop .inv .1)
 

@@ -14,231 +14,174 @@ use Rattle.open_rounds.proofs.unmix4.Reads as reads
 use Rattle.open_rounds.proofs.unmix4.Lts as lts
 use Rattle.columns.proofs.column.Reads as column-reads
 
--- src/lib.rt:13:14
 mul-at : tie.Need-mul-at
 mul-at c = omega (arith, c .before .pre, c .before .good)
 
--- src/lib.rt:14:14
 mul-p0 : tie.Need-mul-p0
 mul-p0 c = omega (arith, c .before .pre, c .before .good)
 
--- src/lib.rt:14:14
 shared-slice-read-p0 : tie.Need-shared-slice-read-p0
 shared-slice-read-p0 c = omega (arith, c .before .before .pre)
 
--- src/lib.rt:15:16
 add-p4 : tie.Need-add-p4
 add-p4 c = omega (arith, c .before .before .pre, c .before .before .good)
 
--- src/lib.rt:15:14
 mul-p4 : tie.Need-mul-p4
 mul-p4 c = omega (arith, c .before .before .pre, c .before .before .good)
 
--- src/lib.rt:15:14
 shared-slice-read-p4 : tie.Need-shared-slice-read-p4
 shared-slice-read-p4 c = omega (arith, c .before .before .before .pre)
 
--- src/lib.rt:16:16
 add-p8 : tie.Need-add-p8
 add-p8 c = omega (arith, c .before .before .before .pre, c .before .before .before .good)
 
--- src/lib.rt:16:14
 mul-p8 : tie.Need-mul-p8
 mul-p8 c = omega (arith, c .before .before .before .pre, c .before .before .before .good)
 
--- src/lib.rt:16:14
 shared-slice-read-p8 : tie.Need-shared-slice-read-p8
 shared-slice-read-p8 c = omega (arith, c .before .before .before .before .pre)
 
--- src/lib.rt:17:17
 add-p12 : tie.Need-add-p12
 add-p12 c = omega (arith, c .before .before .before .before .pre, c .before .before .before .before .good)
 
--- src/lib.rt:17:15
 mul-p12 : tie.Need-mul-p12
 mul-p12 c = omega (arith, c .before .before .before .before .pre, c .before .before .before .before .good)
 
--- src/lib.rt:17:15
 shared-slice-read-p12 : tie.Need-shared-slice-read-p12
 shared-slice-read-p12 c = omega (arith, c .before .before .before .before .before .pre)
 
--- src/lib.rt:18:16
 add-p1 : tie.Need-add-p1
 add-p1 c = omega (arith, c .before .before .before .before .before .pre, c .before .before .before .before .before .good)
 
--- src/lib.rt:18:14
 mul-p1 : tie.Need-mul-p1
 mul-p1 c = omega (arith, c .before .before .before .before .before .pre, c .before .before .before .before .before .good)
 
--- src/lib.rt:18:14
 shared-slice-read-p1 : tie.Need-shared-slice-read-p1
 shared-slice-read-p1 c = omega (arith, c .before .before .before .before .before .before .pre)
 
--- src/lib.rt:19:16
 add-p5 : tie.Need-add-p5
 add-p5 c = omega (arith, c .before .before .before .before .before .before .pre, c .before .before .before .before .before .before .good)
 
--- src/lib.rt:19:14
 mul-p5 : tie.Need-mul-p5
 mul-p5 c = omega (arith, c .before .before .before .before .before .before .pre, c .before .before .before .before .before .before .good)
 
--- src/lib.rt:19:14
 shared-slice-read-p5 : tie.Need-shared-slice-read-p5
 shared-slice-read-p5 c = omega (arith, c .before .before .before .before .before .before .before .pre)
 
--- src/lib.rt:20:16
 add-p9 : tie.Need-add-p9
 add-p9 c = omega (arith, c .before .before .before .before .before .before .before .pre, c .before .before .before .before .before .before .before .good)
 
--- src/lib.rt:20:14
 mul-p9 : tie.Need-mul-p9
 mul-p9 c = omega (arith, c .before .before .before .before .before .before .before .pre, c .before .before .before .before .before .before .before .good)
 
--- src/lib.rt:20:14
 shared-slice-read-p9 : tie.Need-shared-slice-read-p9
 shared-slice-read-p9 c = omega (arith, c .before .before .before .before .before .before .before .before .pre)
 
--- src/lib.rt:21:17
 add-p13 : tie.Need-add-p13
 add-p13 c = omega (arith, c .before .before .before .before .before .before .before .before .pre, c .before .before .before .before .before .before .before .before .good)
 
--- src/lib.rt:21:15
 mul-p13 : tie.Need-mul-p13
 mul-p13 c = omega (arith, c .before .before .before .before .before .before .before .before .pre, c .before .before .before .before .before .before .before .before .good)
 
--- src/lib.rt:21:15
 shared-slice-read-p13 : tie.Need-shared-slice-read-p13
 shared-slice-read-p13 c = omega (arith, c .before .before .before .before .before .before .before .before .before .pre)
 
--- src/lib.rt:22:16
 add-p2 : tie.Need-add-p2
 add-p2 c = omega (arith, c .before .before .before .before .before .before .before .before .before .pre, c .before .before .before .before .before .before .before .before .before .good)
 
--- src/lib.rt:22:14
 mul-p2 : tie.Need-mul-p2
 mul-p2 c = omega (arith, c .before .before .before .before .before .before .before .before .before .pre, c .before .before .before .before .before .before .before .before .before .good)
 
--- src/lib.rt:22:14
 shared-slice-read-p2 : tie.Need-shared-slice-read-p2
 shared-slice-read-p2 c = omega (arith, c .before .before .before .before .before .before .before .before .before .before .pre)
 
--- src/lib.rt:23:16
 add-p6 : tie.Need-add-p6
 add-p6 c = omega (arith, c .before .before .before .before .before .before .before .before .before .before .pre, c .before .before .before .before .before .before .before .before .before .before .good)
 
--- src/lib.rt:23:14
 mul-p6 : tie.Need-mul-p6
 mul-p6 c = omega (arith, c .before .before .before .before .before .before .before .before .before .before .pre, c .before .before .before .before .before .before .before .before .before .before .good)
 
--- src/lib.rt:23:14
 shared-slice-read-p6 : tie.Need-shared-slice-read-p6
 shared-slice-read-p6 c = omega (arith, c .before .before .before .before .before .before .before .before .before .before .before .pre)
 
--- src/lib.rt:24:17
 add-p10 : tie.Need-add-p10
 add-p10 c = omega (arith, c .before .before .before .before .before .before .before .before .before .before .before .pre, c .before .before .before .before .before .before .before .before .before .before .before .good)
 
--- src/lib.rt:24:15
 mul-p10 : tie.Need-mul-p10
 mul-p10 c = omega (arith, c .before .before .before .before .before .before .before .before .before .before .before .pre, c .before .before .before .before .before .before .before .before .before .before .before .good)
 
--- src/lib.rt:24:15
 shared-slice-read-p10 : tie.Need-shared-slice-read-p10
 shared-slice-read-p10 c = omega (arith, c .before .before .before .before .before .before .before .before .before .before .before .before .pre)
 
--- src/lib.rt:25:17
 add-p14 : tie.Need-add-p14
 add-p14 c = omega (arith, c .before .before .before .before .before .before .before .before .before .before .before .before .pre, c .before .before .before .before .before .before .before .before .before .before .before .before .good)
 
--- src/lib.rt:25:15
 mul-p14 : tie.Need-mul-p14
 mul-p14 c = omega (arith, c .before .before .before .before .before .before .before .before .before .before .before .before .pre, c .before .before .before .before .before .before .before .before .before .before .before .before .good)
 
--- src/lib.rt:25:15
 shared-slice-read-p14 : tie.Need-shared-slice-read-p14
 shared-slice-read-p14 c = omega (arith, c .before .before .before .before .before .before .before .before .before .before .before .before .before .pre)
 
--- src/lib.rt:26:16
 add-p3 : tie.Need-add-p3
 add-p3 c = omega (arith, c .before .before .before .before .before .before .before .before .before .before .before .before .before .pre, c .before .before .before .before .before .before .before .before .before .before .before .before .before .good)
 
--- src/lib.rt:26:14
 mul-p3 : tie.Need-mul-p3
 mul-p3 c = omega (arith, c .before .before .before .before .before .before .before .before .before .before .before .before .before .pre, c .before .before .before .before .before .before .before .before .before .before .before .before .before .good)
 
--- src/lib.rt:26:14
 shared-slice-read-p3 : tie.Need-shared-slice-read-p3
 shared-slice-read-p3 c = omega (arith, c .before .before .before .before .before .before .before .before .before .before .before .before .before .before .pre)
 
--- src/lib.rt:27:16
 add-p7 : tie.Need-add-p7
 add-p7 c = omega (arith, c .before .before .before .before .before .before .before .before .before .before .before .before .before .before .pre, c .before .before .before .before .before .before .before .before .before .before .before .before .before .before .good)
 
--- src/lib.rt:27:14
 mul-p7 : tie.Need-mul-p7
 mul-p7 c = omega (arith, c .before .before .before .before .before .before .before .before .before .before .before .before .before .before .pre, c .before .before .before .before .before .before .before .before .before .before .before .before .before .before .good)
 
--- src/lib.rt:27:14
 shared-slice-read-p7 : tie.Need-shared-slice-read-p7
 shared-slice-read-p7 c = omega (arith, c .before .before .before .before .before .before .before .before .before .before .before .before .before .before .before .pre)
 
--- src/lib.rt:28:17
 add-p11 : tie.Need-add-p11
 add-p11 c = omega (arith, c .before .before .before .before .before .before .before .before .before .before .before .before .before .before .before .pre, c .before .before .before .before .before .before .before .before .before .before .before .before .before .before .before .good)
 
--- src/lib.rt:28:15
 mul-p11 : tie.Need-mul-p11
 mul-p11 c = omega (arith, c .before .before .before .before .before .before .before .before .before .before .before .before .before .before .before .pre, c .before .before .before .before .before .before .before .before .before .before .before .before .before .before .before .good)
 
--- src/lib.rt:28:15
 shared-slice-read-p11 : tie.Need-shared-slice-read-p11
 shared-slice-read-p11 c = omega (arith, c .before .before .before .before .before .before .before .before .before .before .before .before .before .before .before .before .pre)
 
--- src/lib.rt:29:17
 add-p15 : tie.Need-add-p15
 add-p15 c = omega (arith, c .before .before .before .before .before .before .before .before .before .before .before .before .before .before .before .before .pre, c .before .before .before .before .before .before .before .before .before .before .before .before .before .before .before .before .good)
 
--- src/lib.rt:29:15
 mul-p15 : tie.Need-mul-p15
 mul-p15 c = omega (arith, c .before .before .before .before .before .before .before .before .before .before .before .before .before .before .before .before .pre, c .before .before .before .before .before .before .before .before .before .before .before .before .before .before .before .before .good)
 
--- src/lib.rt:29:15
 shared-slice-read-p15 : tie.Need-shared-slice-read-p15
 shared-slice-read-p15 c = omega (arith, c .before .before .before .before .before .before .before .before .before .before .before .before .before .before .before .before .before .pre)
 
--- src/lib.rt:31:12
 column-requires : tie.Need-column-requires
 column-requires c κs = search needs
 
--- src/lib.rt:31:5
 array-write-o : tie.Need-array-write-o
 array-write-o c = search needs
 
--- src/lib.rt:32:12
 column-requires-2 : tie.Need-column-requires-2
 column-requires-2 c κs = search needs
 
--- src/lib.rt:32:5
 array-write-o-2 : tie.Need-array-write-o-2
 array-write-o-2 c = search needs
 
--- src/lib.rt:33:12
 column-requires-3 : tie.Need-column-requires-3
 column-requires-3 c κs = search needs
 
--- src/lib.rt:33:5
 array-write-o-3 : tie.Need-array-write-o-3
 array-write-o-3 c = search needs
 
--- src/lib.rt:34:12
 column-requires-4 : tie.Need-column-requires-4
 column-requires-4 c κs = search needs
 
--- src/lib.rt:34:5
 array-write-o-4 : tie.Need-array-write-o-4
 array-write-o-4 c = search needs
 
--- src/lib.rt:9:1
 returns : tie.Need-returns
 returns c = let s = now (c .before .before .before .before .before .before .before .before .before .before .before .before .before .before .before .before .before .before .before .before .before .args .s) in
     let h : Pieces s = λ i. omega (arith, c .before .before .before .before .before .before .before .before .before .before .before .before .before .before .before .before .before .before .before .before .shared-slice-known .given i) in

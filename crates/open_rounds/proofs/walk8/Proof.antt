@@ -23,27 +23,21 @@ Inv-loop t s₀ n ks at i₀ s i = (i ≤ n) × Walked 8 i (roundOf t 8 (openPla
 abbrev μ-loop : tie.MeasureT-loop
 μ-loop t s₀ n ks at i₀ s i = n - i
 
--- src/lib.rt:107:5
 loop-holds : tie.Need-loop-holds Inv-loop μ-loop
 loop-holds c = (omega arith, walk-none 8 (roundOf (now (c .before .before .args .t)) 8 (openPlaces 8) (keyAt 8 (now (c .before .before .args .ks)) (c .before .before .args .at))) (now (c .before .before .args .s)))
 
--- src/lib.rt:108:13
 unmix8-requires : tie.Need-unmix8-requires Inv-loop μ-loop
 unmix8-requires c κs = omega (arith, c .before .before .loop .inv .1 .long)
 
--- src/lib.rt:109:9
 keyed8-requires : tie.Need-keyed8-requires Inv-loop μ-loop
 keyed8-requires c κs = omega (arith, c .before .before .before .before .loop .inv .1 .long)
 
--- src/lib.rt:110:9
 add-i : tie.Need-add-i Inv-loop μ-loop
 add-i c = search needs
 
--- src/lib.rt:107:5
 loop-less : tie.Need-loop-less Inv-loop μ-loop
 loop-less c = search needs
 
--- src/lib.rt:107:5
 loop-again : tie.Need-loop-again Inv-loop μ-loop
 loop-again c = (
   omega arith,
@@ -51,11 +45,9 @@ loop-again c = (
       (c .before .before .before .before .before .before .before .loop .inv .1) (omega arith) (c .before .before .keyed8 .ensures) (λ k h. bound 64 _ _ (c .before .before .before .before .unmix8 .ensures .fits k h) (omega (arith, c .before .before .before .before .before .before .before .before .shared-slice-known .given (c .before .before .before .before .before .before .before .before .before .before .args .at + k)))) (round-cols (now (c .before .before .before .before .before .before .before .before .before .before .args .t)) 8 (openPlaces 8) (now (c .before .before .before .before .before .before .before .before .before .before .args .ks)) (c .before .before .before .before .unmix8 .result) (blockAt 8 (c .before .before .before .before .before .before .before .loop .s) (c .before .before .before .before .before .before .before .loop .i)) (c .before .before .before .before .before .before .before .before .before .before .args .at) (c .before .before .before .before .unmix8 .ensures .says)),
 )
 
--- src/lib.rt:102:1
 same-length : tie.Need-same-length Inv-loop μ-loop
 same-length c = c .before .loop .inv .1 .long
 
--- src/lib.rt:102:1
 returns : tie.Need-returns Inv-loop μ-loop
 returns c = subst (λ m. Walked 8 m (roundOf (now (c .before .before .before .before .args .t)) 8 (openPlaces 8) (keyAt 8 (now (c .before .before .before .before .args .ks)) (c .before .before .before .before .args .at))) (now (c .before .before .before .before .args .s)) (c .before .loop .s)) (omega arith) (c .before .loop .inv .1)
 

@@ -19,47 +19,36 @@ use Rattle.fills.proofs.text_end.Reads as text-end-reads
 use Rattle.handing.proofs.hand.Reads as hand-reads
 use Rattle.unchains.proofs.uncbc.Reads as uncbc-reads
 
--- src/lib.rt:38:53
 slice-aggregate-uncbc : tie.Need-slice-aggregate-uncbc
 slice-aggregate-uncbc c = search needs
 
--- src/lib.rt:38:5
 uncbc-requires : tie.Need-uncbc-requires
 uncbc-requires c κs = (c .before .before .before .before .before .pre .0, c .before .before .before .before .before .pre .1, c .before .before .before .before .before .pre .2, c .before .before .before .before .before .pre .3, c .before .before .before .before .before .pre .4, c .before .before .before .before .before .pre .5, c .before .before .before .before .before .pre .6, c .before .before .before .before .before .pre .7, c .before .before .before .before .before .pre .8, c .before .before .before .before .before .pre .9, omega (arith, c .before .before .before .before .before .pre .8))
 
--- src/lib.rt:39:29
 slice-aggregate-text-end : tie.Need-slice-aggregate-text-end
 slice-aggregate-text-end c = search needs
 
--- src/lib.rt:39:49
 mul-text-end : tie.Need-mul-text-end
 mul-text-end c = omega (arith, width-le (c .before .before .before .before .before .before .before .before .args .c) (c .before .before .before .before .before .before .before .before .pre .3))
 
--- src/lib.rt:39:9
 text-end-requires : tie.Need-text-end-requires
 text-end-requires c κs = (whole-least (8 * (c .before .before .before .before .before .before .before .before .args .c)) (length (c .before .before .before .before .before .before .before .before .args .text .now)) (c .before .before .before .before .before .before .before .before .pre .7) (c .before .before .before .before .before .before .before .before .pre .9), omega (arith, c .before .before .before .before .before .before .before .before .pre .8, c .before .before .uncbc .kept .1 .1 .1 .1 .1 .1 .1 .1 .0))
 
--- src/lib.rt:41:9
 returns : tie.Need-returns
 returns c = λ k un. none-marked (8 * (c .before .before .before .before .before .before .before .before .before .before .args .c)) (length (c .before .before .before .before .before .before .before .before .before .before .args .text .now)) (c .before .text-end .result) (uncbc (8 * (c .before .before .before .before .before .before .before .before .before .before .args .c)) (unsealBytes (c .before .before .before .before .before .before .before .before .before .before .args .c) (c .before .before .before .before .before .before .before .before .before .before .args .t) (keysOf (c .before .before .before .before .before .before .before .before .before .before .args .c) k)) (c .before .before .before .before .before .before .before .before .before .before .args .iv .now) (c .before .before .before .before .before .before .before .before .before .before .args .text .now)) _ (c .before .before .before .before .uncbc .last .1 .1 .1 .1 .1 .1 .1 .1 .0) (c .before .before .before .before .before .before .before .before .before .before .args .out .now) (length-uncbc (8 * (c .before .before .before .before .before .before .before .before .before .before .args .c)) (unsealBytes (c .before .before .before .before .before .before .before .before .before .before .args .c) (c .before .before .before .before .before .before .before .before .before .before .args .t) (keysOf (c .before .before .before .before .before .before .before .before .before .before .args .c) k)) (c .before .before .before .before .before .before .before .before .before .before .args .iv .now) (c .before .before .before .before .before .before .before .before .before .before .args .text .now)) (c .before .before .before .before .uncbc .ensures k un) (c .before .text-end .ensures .0) (c .if1 .taken)
 
--- src/lib.rt:43:19
 array-share-prefix-plain : tie.Need-array-share-prefix-plain
 array-share-prefix-plain c = omega (arith, c .before .text-end .ensures .1, c .before .before .before .before .before .before .before .before .before .before .pre .8, c .before .before .before .before .uncbc .kept .1 .1 .1 .1 .1 .1 .1 .1 .0)
 
--- src/lib.rt:43:19
 slice-aggregate-hand : tie.Need-slice-aggregate-hand
 slice-aggregate-hand c = sym (length-take-le (c .before .before .text-end .result) _ (omega (arith, c .before .before .text-end .ensures .1, c .before .before .before .before .before .before .before .before .before .before .before .pre .8, c .before .before .before .before .before .uncbc .kept .1 .1 .1 .1 .1 .1 .1 .1 .0)))
 
--- src/lib.rt:43:5
 hand-requires : tie.Need-hand-requires
 hand-requires c κs = search needs
 
--- src/lib.rt:23:1
 same-length : tie.Need-same-length
 same-length c = search needs
 
--- src/lib.rt:23:1
 returns-2 : tie.Need-returns-2
 returns-2 c = λ k un. marked-handed (8 * (c .before .before .before .before .before .before .before .before .before .before .before .before .before .before .before .args .c)) (length (c .before .before .before .before .before .before .before .before .before .before .before .before .before .before .before .args .text .now)) (c .before .before .before .before .before .before .text-end .result) (uncbc (8 * (c .before .before .before .before .before .before .before .before .before .before .before .before .before .before .before .args .c)) (unsealBytes (c .before .before .before .before .before .before .before .before .before .before .before .before .before .before .before .args .c) (c .before .before .before .before .before .before .before .before .before .before .before .before .before .before .before .args .t) (keysOf (c .before .before .before .before .before .before .before .before .before .before .before .before .before .before .before .args .c) k)) (c .before .before .before .before .before .before .before .before .before .before .before .before .before .before .before .args .iv .now) (c .before .before .before .before .before .before .before .before .before .before .before .before .before .before .before .args .text .now)) _ (c .before .before .before .before .before .before .before .before .before .uncbc .last .1 .1 .1 .1 .1 .1 .1 .1 .0) (c .before .before .before .before .before .before .before .before .before .before .before .before .before .before .before .args .out .now) (length-uncbc (8 * (c .before .before .before .before .before .before .before .before .before .before .before .before .before .before .before .args .c)) (unsealBytes (c .before .before .before .before .before .before .before .before .before .before .before .before .before .before .before .args .c) (c .before .before .before .before .before .before .before .before .before .before .before .before .before .before .before .args .t) (keysOf (c .before .before .before .before .before .before .before .before .before .before .before .before .before .before .before .args .c) k)) (c .before .before .before .before .before .before .before .before .before .before .before .before .before .before .before .args .iv .now) (c .before .before .before .before .before .before .before .before .before .before .before .before .before .before .before .args .text .now)) (c .before .before .before .before .before .before .before .before .before .uncbc .ensures k un) (c .before .before .before .before .before .before .text-end .ensures .0) _ (c .before .before .before .before .before .before .text-end .ensures .1) (c .before .before .before .before .before .if1 .left) (c .before .before .hand .ensures)
 

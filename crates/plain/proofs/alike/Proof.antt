@@ -12,43 +12,33 @@ Inv-loop a b d₀ i₀ d i = (i ≤ length a) × Met a b i d
 abbrev μ-loop : tie.MeasureT-loop
 μ-loop a b d₀ i₀ d i = length a - i
 
--- src/lib.rt:94:5
 loop-holds : tie.Need-loop-holds Inv-loop μ-loop
 loop-holds c = (omega arith, met-none (c .before .before .args .a .now) (c .before .before .args .b .now))
 
--- src/lib.rt:95:33
 shared-slice-read-x8 : tie.Need-shared-slice-read-x8 Inv-loop μ-loop
 shared-slice-read-x8 c = search needs
 
--- src/lib.rt:95:39
 shared-slice-read-x8-2 : tie.Need-shared-slice-read-x8-2 Inv-loop μ-loop
 shared-slice-read-x8-2 c = search needs
 
--- src/lib.rt:95:23
 x8-requires : tie.Need-x8-requires Inv-loop μ-loop
 x8-requires c κs = search needs
 
--- src/lib.rt:95:9
 joined-requires : tie.Need-joined-requires Inv-loop μ-loop
 joined-requires c κs = search needs
 
--- src/lib.rt:96:9
 add-i : tie.Need-add-i Inv-loop μ-loop
 add-i c = search needs
 
--- src/lib.rt:94:5
 loop-less : tie.Need-loop-less Inv-loop μ-loop
 loop-less c = search needs
 
--- src/lib.rt:94:5
 loop-again : tie.Need-loop-again Inv-loop μ-loop
 loop-again c = (omega arith, met-more (c .before .before .before .before .before .before .before .before .args .a .now) (c .before .before .before .before .before .before .before .before .args .b .now) (c .before .before .before .before .before .loop .i) (c .before .before .before .before .before .loop .d) (c .before .x8 .result) (c .joined .result) (c .before .before .before .before .before .loop .inv .1) (c .before .x8 .ensures) (c .joined .ensures))
 
--- src/lib.rt:99:9
 returns : tie.Need-returns Inv-loop μ-loop
 returns c = alike-one (c .before .before .before .before .before .args .a .now) (c .before .before .before .before .before .args .b .now) (c .before .before .loop .i) (c .before .before .loop .d) (omega arith) (c .before .before .before .before .before .pre) (c .before .before .loop .inv .1) (c .if1 .taken)
 
--- src/lib.rt:88:1
 returns-2 : tie.Need-returns-2 Inv-loop μ-loop
 returns-2 c = alike-zero (c .before .before .before .before .before .args .a .now) (c .before .before .before .before .before .args .b .now) (c .before .before .loop .i) (c .before .before .loop .d) (omega arith) (c .before .before .loop .inv .1) (c .if1 .left)
 

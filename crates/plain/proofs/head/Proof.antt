@@ -7,35 +7,27 @@ use borrow.Author.Needs.{needs}
 use Rattle.plain.proofs.head.Statement.{statement}
 use Rattle.plain.proofs.head.Tie as tie
 
--- src/lib.rt:127:9
 returns : tie.Need-returns
 returns c = head-count (c .before .before .before .before .args .n .now) (c .before .before .before .before .args .a .now) (c .before .before .before .before .args .out .now) (c .if1 .taken)
 
--- src/lib.rt:129:13
 shared-slice-read-k : tie.Need-shared-slice-read-k
 shared-slice-read-k c = search needs
 
--- src/lib.rt:129:13
 cast-k : tie.Need-cast-k
 cast-k c = omega (arith, c .shared-slice-known3 .given 0)
 
--- src/lib.rt:131:9
 returns-2 : tie.Need-returns-2
 returns-2 c = head-short (c .before .before .before .before .before .before .args .n .now) (c .before .before .before .before .before .before .args .a .now) (c .before .before .before .before .before .before .args .out .now) (c .before .before .if1 .left) (c .if2 .taken)
 
--- src/lib.rt:133:10
 slice-aggregate-hand : tie.Need-slice-aggregate-hand
 slice-aggregate-hand c = sym (length-take-le (getD (c .before .before .before .before .before .before .before .args .n .now) 0 0) (c .before .before .before .before .before .before .before .args .a .now) (omega arith))
 
--- src/lib.rt:133:5
 hand-requires : tie.Need-hand-requires
 hand-requires c κs = search needs
 
--- src/lib.rt:123:1
 same-length : tie.Need-same-length
 same-length c = search needs
 
--- src/lib.rt:123:1
 returns-3 : tie.Need-returns-3
 returns-3 c = head-gives (c .before .before .before .before .before .before .before .before .before .before .before .args .n .now) (c .before .before .before .before .before .before .before .before .before .before .before .args .a .now) (c .before .before .before .before .before .before .before .before .before .before .before .args .out .now) (c .before .before .before .before .before .before .before .if1 .left) _ (omega arith) (c .before .before .hand .ensures)
 

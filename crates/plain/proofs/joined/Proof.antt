@@ -2,7 +2,6 @@ use Rattle.plain.proofs.Compared.{or-zero, zero-or}
 use Rattle.plain.proofs.joined.Statement.{statement}
 use Rattle.plain.proofs.joined.Tie as tie
 
--- src/lib.rt:81:1
 returns : tie.Need-returns
 returns c = (or-zero (c .args .d) (c .args .x), zero-or (c .args .d) (c .args .x))
 

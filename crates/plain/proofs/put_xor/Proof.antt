@@ -14,43 +14,33 @@ Inv-loop a b out₀ i₀ out i = (i ≤ length a) × Run (λ j. xor (getD a j 0)
 abbrev μ-loop : tie.MeasureT-loop
 μ-loop a b out₀ i₀ out i = length a - i
 
--- src/lib.rt:60:5
 loop-holds : tie.Need-loop-holds Inv-loop μ-loop
 loop-holds c = (omega arith, run-none (λ j. xor (getD (c .before .before .before .args .a .now) j 0) (getD (c .before .before .before .args .b .now) j 0)) 0 (c .before .before .before .args .out .now))
 
--- src/lib.rt:61:28
 shared-slice-read-x8 : tie.Need-shared-slice-read-x8 Inv-loop μ-loop
 shared-slice-read-x8 c = search needs
 
--- src/lib.rt:61:34
 shared-slice-read-x8-2 : tie.Need-shared-slice-read-x8-2 Inv-loop μ-loop
 shared-slice-read-x8-2 c = search needs
 
--- src/lib.rt:61:18
 x8-requires : tie.Need-x8-requires Inv-loop μ-loop
 x8-requires c κs = search needs
 
--- src/lib.rt:61:9
 slice-write-out : tie.Need-slice-write-out Inv-loop μ-loop
 slice-write-out c = omega (arith, c .before .before .before .before .loop .inv .1 .long, c .before .before .before .before .before .before .before .before .pre .1)
 
--- src/lib.rt:62:9
 add-i : tie.Need-add-i Inv-loop μ-loop
 add-i c = search needs
 
--- src/lib.rt:60:5
 loop-less : tie.Need-loop-less Inv-loop μ-loop
 loop-less c = search needs
 
--- src/lib.rt:60:5
 loop-again : tie.Need-loop-again Inv-loop μ-loop
 loop-again c = (omega arith, front-more (λ j. xor (getD (c .before .before .before .before .before .before .before .before .args .a .now) j 0) (getD (c .before .before .before .before .before .before .before .before .args .b .now) j 0)) (c .before .before .before .before .before .before .before .before .args .out .now) (c .before .before .before .before .loop .i) (c .before .before .before .before .loop .out) (c .x8 .result) (c .before .before .before .before .loop .inv .1) (omega (arith, c .before .before .before .before .before .before .before .before .pre .1)) (c .x8 .ensures))
 
--- src/lib.rt:55:1
 same-length : tie.Need-same-length Inv-loop μ-loop
 same-length c = c .before .loop .inv .1 .long
 
--- src/lib.rt:55:1
 returns : tie.Need-returns Inv-loop μ-loop
 returns c = xor-whole (c .before .before .before .before .before .args .a .now) (c .before .before .before .before .before .args .b .now) (c .before .before .before .before .before .args .out .now) (c .before .loop .out) (c .before .loop .i) (omega arith) (c .before .loop .inv .1)
 

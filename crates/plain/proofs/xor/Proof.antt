@@ -4,23 +4,18 @@ use borrow.Author.Needs.{needs}
 use Rattle.plain.proofs.xor.Statement.{statement}
 use Rattle.plain.proofs.xor.Tie as tie
 
--- src/lib.rt:71:9
 returns : tie.Need-returns
 returns c = xor-unequal (c .before .before .before .before .args .a .now) (c .before .before .before .before .args .b .now) (c .before .before .before .before .args .out .now) (c .if1 .taken)
 
--- src/lib.rt:74:9
 returns-2 : tie.Need-returns-2
 returns-2 c = xor-lacks (c .before .before .before .before .before .args .a .now) (c .before .before .before .before .before .args .b .now) (c .before .before .before .before .before .args .out .now) (c .before .if1 .left) (c .if2 .taken)
 
--- src/lib.rt:76:5
 put-xor-requires : tie.Need-put-xor-requires
 put-xor-requires c κs = search needs
 
--- src/lib.rt:66:1
 same-length : tie.Need-same-length
 same-length c = search needs
 
--- src/lib.rt:66:1
 returns-3 : tie.Need-returns-3
 returns-3 c = xor-gives (c .before .before .before .before .before .before .before .before .before .args .a .now) (c .before .before .before .before .before .before .before .before .before .args .b .now) (c .before .before .before .before .before .before .before .before .before .args .out .now) (c .before .before .before .before .before .if1 .left) _ (omega arith) (c .before .before .put-xor .ensures)
 

@@ -4,155 +4,117 @@ use borrow.Author.Needs.{needs}
 use Rattle.preparations.proofs.prepare_row.Statement.{statement}
 use Rattle.preparations.proofs.prepare_row.Tie as tie
 
--- src/main.rt:272:9
 figure-at-requires : tie.Need-figure-at-requires
 figure-at-requires c κs = search needs
 
--- src/main.rt:274:9
 figure-at-requires-2 : tie.Need-figure-at-requires-2
 figure-at-requires-2 c κs = search needs
 
--- src/main.rt:276:9
 figure-at-requires-3 : tie.Need-figure-at-requires-3
 figure-at-requires-3 c κs = search needs
 
--- src/main.rt:278:9
 figure-at-requires-4 : tie.Need-figure-at-requires-4
 figure-at-requires-4 c κs = search needs
 
--- src/main.rt:280:9
 up-to-requires : tie.Need-up-to-requires
 up-to-requires c κs = search needs
 
--- src/main.rt:281:9
 end-of-requires : tie.Need-end-of-requires
 end-of-requires c κs = search needs
 
--- src/main.rt:282:9
 up-to-requires-2 : tie.Need-up-to-requires-2
 up-to-requires-2 c κs = search needs
 
--- src/main.rt:283:9
 end-of-requires-2 : tie.Need-end-of-requires-2
 end-of-requires-2 c κs = search needs
 
--- src/main.rt:285:19
 sub-field : tie.Need-sub-field
 sub-field c = search needs
 
--- src/main.rt:285:19
 part-field-start : tie.Need-part-field-start
 part-field-start c = search needs
 
--- src/main.rt:285:19
 part-field-end : tie.Need-part-field-end
 part-field-end c = search needs
 
--- src/main.rt:285:32
 slice-aggregate-field : tie.Need-slice-aggregate-field
 slice-aggregate-field c = search needs
 
--- src/main.rt:285:9
 field-requires : tie.Need-field-requires
 field-requires c κs = search needs
 
--- src/main.rt:287:19
 sub-field-2 : tie.Need-sub-field-2
 sub-field-2 c = search needs
 
--- src/main.rt:287:19
 part-field-start-2 : tie.Need-part-field-start-2
 part-field-start-2 c = search needs
 
--- src/main.rt:287:19
 part-field-end-2 : tie.Need-part-field-end-2
 part-field-end-2 c = search needs
 
--- src/main.rt:287:32
 slice-aggregate-field-2 : tie.Need-slice-aggregate-field-2
 slice-aggregate-field-2 c = search needs
 
--- src/main.rt:287:9
 field-requires-2 : tie.Need-field-requires-2
 field-requires-2 c κs = search needs
 
--- src/main.rt:288:9
 least-requires : tie.Need-least-requires
 least-requires c κs = search needs
 
--- src/main.rt:289:9
 least-requires-2 : tie.Need-least-requires-2
 least-requires-2 c κs = search needs
 
--- src/main.rt:291:9
 sub-prepared : tie.Need-sub-prepared
 sub-prepared c = search needs
 
--- src/main.rt:291:9
 part-prepared-start : tie.Need-part-prepared-start
 part-prepared-start c = search needs
 
--- src/main.rt:291:9
 part-prepared-end : tie.Need-part-prepared-end
 part-prepared-end c = search needs
 
--- src/main.rt:292:9
 array-share-prefix-list : tie.Need-array-share-prefix-list
 array-share-prefix-list c = search needs
 
--- src/main.rt:292:9
 slice-aggregate-prepared : tie.Need-slice-aggregate-prepared
 slice-aggregate-prepared c = sym (length-take-le (c .before .before .before .before .before .before .before .before .before .field .result) (c .before .before .before .before .before .before .before .before .before .field .last .1 .0) (c .before .before .before .before .before .before .before .before .before .field .ensures))
 
--- src/main.rt:293:9
 array-share-prefix-due : tie.Need-array-share-prefix-due
 array-share-prefix-due c = search needs
 
--- src/main.rt:293:9
 slice-aggregate-prepared-2 : tie.Need-slice-aggregate-prepared-2
 slice-aggregate-prepared-2 c = sym (length-take-le (c .before .before .before .before .before .before .field2 .result) (c .before .before .before .before .before .before .field2 .last .1 .0) (c .before .before .before .before .before .before .field2 .ensures))
 
--- src/main.rt:296:9
 slice-relend-prefix-prepared : tie.Need-slice-relend-prefix-prepared
 slice-relend-prefix-prepared c = search needs
 
--- src/main.rt:296:9
 slice-aggregate-prepared-3 : tie.Need-slice-aggregate-prepared-3
 slice-aggregate-prepared-3 c = sym (length-take-le (c .before .before .before .before .before .least .result) (c .before .before .before .before .before .before .before .before .before .before .before .before .before .before .before .before .before .before .before .before .before .before .before .before .before .args .out .now) (c .before .before .before .before .before .least .ensures .1))
 
--- src/main.rt:297:9
 slice-relend-prefix-prepared-2 : tie.Need-slice-relend-prefix-prepared-2
 slice-relend-prefix-prepared-2 c = search needs
 
--- src/main.rt:297:9
 slice-aggregate-prepared-4 : tie.Need-slice-aggregate-prepared-4
 slice-aggregate-prepared-4 c = sym (length-take-le (c .before .before .before .before .before .least2 .result) (c .before .before .before .before .before .before .before .before .before .before .before .before .before .before .before .before .before .before .before .before .before .before .before .before .before .before .args .work .now) (c .before .before .before .before .before .least2 .ensures .1))
 
--- src/main.rt:290:8
 prepared-requires : tie.Need-prepared-requires
 prepared-requires c κs = search needs
 
--- src/main.rt:299:9
 same-length : tie.Need-same-length
 same-length c = search needs
 
--- src/main.rt:299:9
 same-length-2 : tie.Need-same-length-2
 same-length-2 c = search needs
 
--- src/main.rt:299:9
 returns : tie.Need-returns
 returns c = search needs
 
--- src/main.rt:268:1
 same-length-3 : tie.Need-same-length-3
 same-length-3 c = search needs
 
--- src/main.rt:268:1
 same-length-4 : tie.Need-same-length-4
 same-length-4 c = search needs
 
--- src/main.rt:268:1
 returns-2 : tie.Need-returns-2
 returns-2 c = search needs
 

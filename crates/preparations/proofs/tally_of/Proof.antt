@@ -11,67 +11,51 @@ Inv-loop s out₀ value₀ work₀ rows₀ good₀ size₀ p₀ out value work r
 abbrev μ-loop : tie.MeasureT-loop
 μ-loop s out₀ value₀ work₀ rows₀ good₀ size₀ p₀ out value work rows good size p = length s - p
 
--- src/main.rt:400:5
 loop-holds : tie.Need-loop-holds Inv-loop μ-loop
 loop-holds c = search needs
 
--- src/main.rt:401:13
 up-to-requires : tie.Need-up-to-requires Inv-loop μ-loop
 up-to-requires c κs = search needs
 
--- src/main.rt:402:24
 sub-row-of : tie.Need-sub-row-of Inv-loop μ-loop
 sub-row-of c = search needs
 
--- src/main.rt:402:24
 part-row-of-start : tie.Need-part-row-of-start Inv-loop μ-loop
 part-row-of-start c = search needs
 
--- src/main.rt:402:24
 part-row-of-end : tie.Need-part-row-of-end Inv-loop μ-loop
 part-row-of-end c = search needs
 
--- src/main.rt:402:13
 row-of-requires : tie.Need-row-of-requires Inv-loop μ-loop
 row-of-requires c κs = search needs
 
--- src/main.rt:404:9
 add-rows : tie.Need-add-rows Inv-loop μ-loop
 add-rows c = search needs
 
--- src/main.rt:405:9
 add-good : tie.Need-add-good Inv-loop μ-loop
 add-good c = search needs
 
--- src/main.rt:407:13
 tell-requires : tie.Need-tell-requires Inv-loop μ-loop
 tell-requires c κs = search needs
 
--- src/main.rt:410:13
 add-p : tie.Need-add-p Inv-loop μ-loop
 add-p c = search needs
 
--- src/main.rt:400:5
 loop-less : tie.Need-loop-less Inv-loop μ-loop
 loop-less c = search needs
 
--- src/main.rt:400:5
 loop-again : tie.Need-loop-again Inv-loop μ-loop
 loop-again c = search needs
 
--- src/main.rt:395:1
 same-length : tie.Need-same-length Inv-loop μ-loop
 same-length c = c .before .loop .inv .3
 
--- src/main.rt:395:1
 same-length-2 : tie.Need-same-length-2 Inv-loop μ-loop
 same-length-2 c = c .before .loop .inv .4
 
--- src/main.rt:395:1
 same-length-3 : tie.Need-same-length-3 Inv-loop μ-loop
 same-length-3 c = c .before .loop .inv .5
 
--- src/main.rt:395:1
 returns : tie.Need-returns Inv-loop μ-loop
 returns c = search needs
 

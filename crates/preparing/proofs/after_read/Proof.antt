@@ -11,75 +11,57 @@ use borrow.Author.Needs.{needs}
 use Rattle.preparing.proofs.after_read.Statement.{statement}
 use Rattle.preparing.proofs.after_read.Tie as tie
 
--- src/lib.rt:98:8
 good-requires : tie.Need-good-requires
 good-requires c κs = search needs
 
--- src/lib.rt:99:13
 has-value-requires : tie.Need-has-value-requires
 has-value-requires c κs = search needs
 
--- src/lib.rt:100:13
 has-value-requires-2 : tie.Need-has-value-requires-2
 has-value-requires-2 c κs = search needs
 
--- src/lib.rt:101:13
 has-value-requires-3 : tie.Need-has-value-requires-3
 has-value-requires-3 c κs = search needs
 
--- src/lib.rt:102:13
 has-value-requires-4 : tie.Need-has-value-requires-4
 has-value-requires-4 c κs = search needs
 
--- src/lib.rt:103:22
 first-unbound-requires : tie.Need-first-unbound-requires
 first-unbound-requires c κs = search needs
 
--- src/lib.rt:104:23
 enum-known-p : tie.Need-enum-known-p
 enum-known-p c = search needs
 
--- src/lib.rt:105:37
 enum-told : tie.Need-enum-told
 enum-told c = search needs
 
--- src/lib.rt:105:37
 check-requires : tie.Need-check-requires
 check-requires c κs = search needs
 
--- src/lib.rt:106:36
 enum-told-2 : tie.Need-enum-told-2
 enum-told-2 c = search needs
 
--- src/lib.rt:107:31
 enum-known-need : tie.Need-enum-known-need
 enum-known-need c = search needs
 
--- src/lib.rt:107:40
 with-tables-requires : tie.Need-with-tables-requires
 with-tables-requires c κs = folding (c .before .before .before .before .before .before .before .before .before .before .before .before .before .before .before .before .before .before .before .before .args .text .now) (c .before .before .before .before .before .before .before .before .before .before .before .before .before .before .before .before .before .before .before .before .args .records .now) (c .before .before .before .before .before .before .before .before .before .before .before .before .before .before .before .before .before .before .before .before .args .list .now) (length (c .before .before .before .before .before .before .before .before .before .before .before .before .before .before .before .before .before .before .before .before .args .work .now)) (c .before .before .before .before .before .before .before .before .before .before .before .before .before .before .before .before .before .before .before .before .pre) (sym (c .before .before .before .before .before .before .before .before .before .before .before .before .before .before .good2 .ensures) ∙ c .before .before .before .before .before .before .before .before .before .before .before .before .before .if1 .taken) (c .before .before .before .before .before .check .result) (c .before .before .before .need .given .0 .0) (c .before .before .before .before .before .check .ensures) (c .before .before .before .need .given .1) _ (omega arith)
 
--- src/lib.rt:103:9
 returns : tie.Need-returns
 returns c = stops (afterRead cellOf (c .before .before .before .before .before .before .before .before .before .before .before .before .before .before .before .args .text .now) (c .before .before .before .before .before .before .before .before .before .before .before .before .before .before .before .args .list .now) (readText (c .before .before .before .before .before .before .before .before .before .before .before .before .before .before .before .args .text .now))) 25 (c .before .p .given .0 .0) (c .before .before .before .before .before .before .before .before .before .before .before .before .before .before .before .args .out .now) (absent-name (c .before .before .before .before .before .before .before .before .before .before .before .before .before .before .before .args .text .now) (c .before .before .before .before .before .before .before .before .before .before .before .before .before .before .before .args .records .now) (c .before .before .before .before .before .before .before .before .before .before .before .before .before .before .before .args .list .now) (length (c .before .before .before .before .before .before .before .before .before .before .before .before .before .before .before .args .work .now)) (c .before .before .before .before .before .before .before .before .before .before .before .before .before .before .before .pre) (sym (c .before .before .before .before .before .before .before .before .before .good2 .ensures) ∙ c .before .before .before .before .before .before .before .before .if1 .taken) (λ i. omega (arith, c .before .before .before .before .before .before .before .before .before .before .before .before .shared-slice-known3 .given i)) (c .before .before .before .before .before .before .before .has-value .result) (c .before .before .before .before .before .before .has-value2 .result) (c .before .before .before .before .before .has-value3 .result) (c .before .before .before .before .has-value4 .result) (c .before .before .before .before .before .before .before .has-value .ensures) (c .before .before .before .before .before .before .has-value2 .ensures) (c .before .before .before .before .before .has-value3 .ensures) (c .before .before .before .before .has-value4 .ensures) (c .before .before .before .first-unbound .result) (c .before .before .before .first-unbound .ensures) (c .before .p .given .0 .0) (c .before .p .given .1))
 
--- src/lib.rt:103:9
 returns-2 : tie.Need-returns-2
 returns-2 c = absurd (no-form (c .before .before .before .before .before .before .before .before .before .before .before .before .before .before .before .before .before .args .text .now) (c .before .before .before .before .before .before .before .before .before .before .before .before .before .before .before .before .before .args .records .now) (c .before .before .before .before .before .before .before .before .before .before .before .before .before .before .before .before .before .args .list .now) (length (c .before .before .before .before .before .before .before .before .before .before .before .before .before .before .before .before .before .args .work .now)) (c .before .before .before .before .before .before .before .before .before .before .before .before .before .before .before .before .before .pre) (sym (c .before .before .before .before .before .before .before .before .before .before .before .good2 .ensures) ∙ c .before .before .before .before .before .before .before .before .before .before .if1 .taken) (c .before .before .check .result) (c .before .before .check .ensures) (c .enum-told2 .given .1))
 
--- src/lib.rt:103:9
 same-length : tie.Need-same-length
 same-length c = search needs
 
--- src/lib.rt:103:9
 same-length-2 : tie.Need-same-length-2
 same-length-2 c = search needs
 
--- src/lib.rt:103:9
 returns-3 : tie.Need-returns-3
 returns-3 c = same-gives (afterRead cellOf (c .before .before .before .before .before .before .before .before .before .before .before .before .before .before .before .before .before .before .before .before .before .before .before .before .before .args .text .now) (c .before .before .before .before .before .before .before .before .before .before .before .before .before .before .before .before .before .before .before .before .before .before .before .before .before .args .list .now) (readText (c .before .before .before .before .before .before .before .before .before .before .before .before .before .before .before .before .before .before .before .before .before .before .before .before .before .args .text .now))) (sized (foldedAt (c .before .before .before .before .before .before .before .before .before .before .before .before .before .before .before .before .before .before .before .before .before .before .before .before .before .args .list .now) (c .before .before .before .before .before .before .before .before .before .before .before .before .before .before .before .before .before .before .before .before .before .before .before .before .before .args .records .now))) (c .before .before .before .before .with-tables .result) (c .before .before .before .before .before .before .before .before .before .before .before .before .before .before .before .before .before .before .before .before .before .before .before .before .before .args .out .now) (c .before .before .before .before .with-tables .last .1 .1 .1 .0) (all-bound (c .before .before .before .before .before .before .before .before .before .before .before .before .before .before .before .before .before .before .before .before .before .before .before .before .before .args .text .now) (c .before .before .before .before .before .before .before .before .before .before .before .before .before .before .before .before .before .before .before .before .before .before .before .before .before .args .records .now) (c .before .before .before .before .before .before .before .before .before .before .before .before .before .before .before .before .before .before .before .before .before .before .before .before .before .args .list .now) (length (c .before .before .before .before .before .before .before .before .before .before .before .before .before .before .before .before .before .before .before .before .before .before .before .before .before .args .work .now)) (c .before .before .before .before .before .before .before .before .before .before .before .before .before .before .before .before .before .before .before .before .before .before .before .before .before .pre) (sym (c .before .before .before .before .before .before .before .before .before .before .before .before .before .before .before .before .before .before .before .good2 .ensures) ∙ c .before .before .before .before .before .before .before .before .before .before .before .before .before .before .before .before .before .before .if1 .taken) (λ i. omega (arith, c .before .before .before .before .before .before .before .before .before .before .before .before .before .before .before .before .before .before .before .before .before .before .shared-slice-known3 .given i)) (c .before .before .before .before .before .before .before .before .before .before .before .before .before .before .before .before .before .has-value .result) (c .before .before .before .before .before .before .before .before .before .before .before .before .before .before .before .before .has-value2 .result) (c .before .before .before .before .before .before .before .before .before .before .before .before .before .before .before .has-value3 .result) (c .before .before .before .before .before .before .before .before .before .before .before .before .before .before .has-value4 .result) (c .before .before .before .before .before .before .before .before .before .before .before .before .before .before .before .before .before .has-value .ensures) (c .before .before .before .before .before .before .before .before .before .before .before .before .before .before .before .before .has-value2 .ensures) (c .before .before .before .before .before .before .before .before .before .before .before .before .before .before .before .has-value3 .ensures) (c .before .before .before .before .before .before .before .before .before .before .before .before .before .before .has-value4 .ensures) (c .before .before .before .before .before .before .before .before .before .before .before .before .before .first-unbound .result) (c .before .before .before .before .before .before .before .before .before .before .before .before .before .first-unbound .ensures) (c .before .before .before .before .before .before .before .before .before .before .before .enum-told .given .1)) (c .before .before .before .before .with-tables .ensures)
 
--- src/lib.rt:88:1
 returns-4 : tie.Need-returns-4
 returns-4 c = stops (afterRead cellOf (c .before .before .before .before .before .before .before .args .text .now) (c .before .before .before .before .before .before .before .args .list .now) (readText (c .before .before .before .before .before .before .before .args .text .now))) 27 0 (c .before .before .before .before .before .before .before .args .out .now) (bad-list (c .before .before .before .before .before .before .before .args .text .now) (c .before .before .before .before .before .before .before .args .records .now) (c .before .before .before .before .before .before .before .args .list .now) (length (c .before .before .before .before .before .before .before .args .work .now)) (c .before .before .before .before .before .before .before .pre) (sym (c .before .good2 .ensures) ∙ c .if1 .left))
 

@@ -10,55 +10,42 @@ use borrow.Author.Needs.{needs}
 use Rattle.preparing.proofs.decide.Statement.{statement}
 use Rattle.preparing.proofs.decide.Tie as tie
 
--- src/lib.rt:120:9
 returns : tie.Need-returns
 returns c = stops (preparedOf cellOf (c .before .before .before .before .before .args .text .now) (c .before .before .before .before .before .args .list .now)) 21 0 (c .before .before .before .before .before .args .out .now) (long-text (c .before .before .before .before .before .args .text .now) (c .before .before .before .before .before .args .list .now) (c .if1 .taken))
 
--- src/lib.rt:123:35
 slice-aggregate-read : tie.Need-slice-aggregate-read
 slice-aggregate-read c = search needs
 
--- src/lib.rt:123:11
 read-requires : tie.Need-read-requires
 read-requires c κs = search needs
 
--- src/lib.rt:124:20
 enum-known-m : tie.Need-enum-known-m
 enum-known-m c = search needs
 
--- src/lib.rt:124:44
 cast-t15 : tie.Need-cast-t15
 cast-t15 c = let w = wrong-small (c .before .before .before .before .before .before .before .before .before .before .before .args .text .now) (c .before .m .given .0 .0) (c .before .m .given .0 .1 .0) (was-wrong (readText (c .before .before .before .before .before .before .before .before .before .before .before .args .text .now)) (c .before .m .given .0 .0) (c .before .m .given .0 .1 .0) (sym (c .before .before .before .before .read .ensures .says) ∙ c .before .m .given .1)) in omega arith
 
--- src/lib.rt:125:22
 enum-known-n : tie.Need-enum-known-n
 enum-known-n c = search needs
 
--- src/lib.rt:125:45
 array-share-prefix-records : tie.Need-array-share-prefix-records
 array-share-prefix-records c = read-within (c .before .before .before .before .before .before .before .before .before .before .before .args .text .now) (c .before .before .before .before .read .result) (c .before .n .given .0 .0) _ (c .before .before .before .before .read .last .1 .0) (c .before .before .before .before .read .ensures) (c .before .n .given .1)
 
--- src/lib.rt:125:45
 slice-aggregate-after-read : tie.Need-slice-aggregate-after-read
 slice-aggregate-after-read c = sym (length-take-le (c .before .before .n .given .0 .0) (c .before .before .before .before .before .read .last .1 .0) (read-within (c .before .before .before .before .before .before .before .before .before .before .before .before .args .text .now) (c .before .before .before .before .before .read .result) (c .before .before .n .given .0 .0) _ (c .before .before .before .before .before .read .last .1 .0) (c .before .before .before .before .before .read .ensures) (c .before .before .n .given .1)))
 
--- src/lib.rt:125:28
 after-read-requires : tie.Need-after-read-requires
 after-read-requires c κs = was-read (c .before .before .before .before .before .before .before .before .before .before .before .before .before .before .args .text .now) (c .before .before .before .before .before .before .before .read .result) (c .before .before .before .before .n .given .0 .0) _ _ (c .before .before .before .before .before .before .before .read .last .1 .0) (c .before .before .before .before .before .before .before .read .ensures) (c .before .before .before .before .n .given .1) (c .before .before .before .before .before .before .before .before .before .if1 .left) (c .before .before .before .before .before .before .before .before .before .before .before .before .before .before .pre)
 
--- src/lib.rt:115:1
 returns-2 : tie.Need-returns-2
 returns-2 c = stops (preparedOf cellOf (c .before .before .before .before .before .before .before .before .before .before .before .args .text .now) (c .before .before .before .before .before .before .before .before .before .before .before .args .list .now)) (c .before .m .given .0 .0) (c .before .m .given .0 .1 .0) (c .before .before .before .before .before .before .before .before .before .before .before .args .out .now) (wrong-stops (c .before .before .before .before .before .before .before .before .before .before .before .args .text .now) (c .before .before .before .before .before .before .before .before .before .before .before .args .list .now) (c .before .m .given .0 .0) (c .before .m .given .0 .1 .0) (c .before .before .before .before .before .before .if1 .left) (was-wrong (readText (c .before .before .before .before .before .before .before .before .before .before .before .args .text .now)) (c .before .m .given .0 .0) (c .before .m .given .0 .1 .0) (sym (c .before .before .before .before .read .ensures .says) ∙ c .before .m .given .1)))
 
--- src/lib.rt:115:1
 same-length : tie.Need-same-length
 same-length c = search needs
 
--- src/lib.rt:115:1
 same-length-2 : tie.Need-same-length-2
 same-length-2 c = search needs
 
--- src/lib.rt:115:1
 returns-3 : tie.Need-returns-3
 returns-3 c = same-gives (preparedOf cellOf (c .before .before .before .before .before .before .before .before .before .before .before .before .before .before .before .before .before .before .before .args .text .now) (c .before .before .before .before .before .before .before .before .before .before .before .before .before .before .before .before .before .before .before .args .list .now)) (afterRead cellOf (c .before .before .before .before .before .before .before .before .before .before .before .before .before .before .before .before .before .before .before .args .text .now) (c .before .before .before .before .before .before .before .before .before .before .before .before .before .before .before .before .before .before .before .args .list .now) (readText (c .before .before .before .before .before .before .before .before .before .before .before .before .before .before .before .before .before .before .before .args .text .now))) (c .before .before .before .before .after-read .result) (c .before .before .before .before .before .before .before .before .before .before .before .before .before .before .before .before .before .before .before .args .out .now) (c .before .before .before .before .after-read .last .1 .1 .1 .0) (fair-text (c .before .before .before .before .before .before .before .before .before .before .before .before .before .before .before .before .before .before .before .args .text .now) (c .before .before .before .before .before .before .before .before .before .before .before .before .before .before .before .before .before .before .before .args .list .now) (c .before .before .before .before .before .before .before .before .before .before .before .before .before .before .if1 .left)) (c .before .before .before .before .after-read .ensures)
 

@@ -5,39 +5,30 @@ use borrow.Author.Needs.{needs}
 use Rattle.preparing.proofs.fold_in.Statement.{statement}
 use Rattle.preparing.proofs.fold_in.Tie as tie
 
--- src/lib.rt:39:9
 size-requires : tie.Need-size-requires
 size-requires c κs = c .before .before .before .before .before .pre
 
--- src/lib.rt:41:9
 same-length : tie.Need-same-length
 same-length c = search needs
 
--- src/lib.rt:41:9
 returns : tie.Need-returns
 returns c = gives-long (foldedAt (c .before .before .before .before .before .before .before .before .before .args .list .now) (c .before .before .before .before .before .before .before .before .before .args .records .now)) (c .before .before .before .before .before .before .before .before .before .args .out .now) (c .before .before .before .size .result) (c .before .before .before .size .ensures) (c .if1 .taken)
 
--- src/lib.rt:44:9
 same-length-2 : tie.Need-same-length-2
 same-length-2 c = search needs
 
--- src/lib.rt:44:9
 returns-2 : tie.Need-returns-2
 returns-2 c = gives-room (foldedAt (c .before .before .before .before .before .before .before .before .before .before .args .list .now) (c .before .before .before .before .before .before .before .before .before .before .args .records .now)) (c .before .before .before .before .before .before .before .before .before .before .args .out .now) (c .before .before .before .before .size .result) (c .before .before .before .before .size .ensures) (c .before .if1 .left) (c .if2 .taken)
 
--- src/lib.rt:46:17
 write-requires : tie.Need-write-requires
 write-requires c κs = (ready-longer (c .before .before .before .before .before .before .before .before .before .before .before .before .args .records .now) (c .before .before .before .before .before .before .before .before .before .before .before .before .args .list .now) (c .before .before .before .before .before .before .before .before .before .before .before .before .args .tab .now) (c .before .before .before .before .before .before .before .before .before .before .before .before .args .back .now) (c .before .before .before .before .before .before .before .before .before .before .before .before .args .p .now) (c .before .before .before .before .before .before .before .before .before .before .before .before .args .u .now) _ _ (c .before .before .before .before .before .before .before .before .before .before .before .before .pre) (omega (arith, c .before .before .before .before .before .before .size .kept .1 .1 .1 .1 .1 .1 .0)), made-fitting (foldedAt (c .before .before .before .before .before .before .before .before .before .before .before .before .args .list .now) (c .before .before .before .before .before .before .before .before .before .before .before .before .args .records .now)) (c .before .before .before .before .before .before .before .before .before .before .before .before .args .out .now) (c .before .before .before .before .before .before .size .result) (c .before .before .before .before .before .before .size .ensures) (c .before .before .before .if1 .left) (c .before .before .if2 .left))
 
--- src/lib.rt:26:1
 same-length-3 : tie.Need-same-length-3
 same-length-3 c = search needs
 
--- src/lib.rt:26:1
 same-length-4 : tie.Need-same-length-4
 same-length-4 c = search needs
 
--- src/lib.rt:26:1
 returns-3 : tie.Need-returns-3
 returns-3 c = gives-made (foldedAt (c .before .before .before .before .before .before .before .before .before .before .before .before .before .before .before .before .before .args .list .now) (c .before .before .before .before .before .before .before .before .before .before .before .before .before .before .before .before .before .args .records .now)) (c .before .before .before .before .before .before .before .before .before .before .before .before .before .before .before .before .before .args .out .now) (c .before .before .before .before .before .before .before .before .before .before .before .size .result) (c .before .before .before .before .before .before .before .before .before .before .before .size .ensures) (c .before .before .before .before .before .before .before .before .if1 .left) (c .before .before .before .before .before .before .before .if2 .left) (c .before .before .before .before .write .result) (c .before .before .before .before .write .last .1 .1 .1 .1 .1 .1 .1 .0) (c .before .before .before .before .write .ensures)
 

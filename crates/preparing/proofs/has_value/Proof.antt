@@ -4,27 +4,21 @@ use borrow.Author.Needs.{needs}
 use Rattle.preparing.proofs.has_value.Statement.{statement}
 use Rattle.preparing.proofs.has_value.Tie as tie
 
--- src/lib.rt:81:31
 add-find : tie.Need-add-find
 add-find c = search needs
 
--- src/lib.rt:81:11
 find-requires : tie.Need-find-requires
 find-requires c κs = search needs
 
--- src/lib.rt:82:19
 enum-known-start : tie.Need-enum-known-start
 enum-known-start c = search needs
 
--- src/lib.rt:83:27
 enum-told : tie.Need-enum-told
 enum-told c = search needs
 
--- src/lib.rt:77:1
 returns : tie.Need-returns
 returns c = found-some (c .before .before .before .before .before .args .list .now) _ (c .before .start .given .0 .0) (c .before .start .given .0 .1 .0) (sym (c .before .before .before .find .ensures) ∙ c .before .start .given .1)
 
--- src/lib.rt:77:1
 returns-2 : tie.Need-returns-2
 returns-2 c = found-none (c .before .before .before .before .args .list .now) _ (sym (c .before .before .find .ensures) ∙ c .enum-told .given .1)
 

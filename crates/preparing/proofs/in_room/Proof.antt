@@ -8,31 +8,24 @@ use borrow.Author.Needs.{needs}
 use Rattle.preparing.proofs.in_room.Statement.{statement}
 use Rattle.preparing.proofs.in_room.Tie as tie
 
--- src/lib.rt:134:37
 slice-relend-prefix-decide : tie.Need-slice-relend-prefix-decide
 slice-relend-prefix-decide c = search needs
 
--- src/lib.rt:134:37
 slice-aggregate-decide : tie.Need-slice-aggregate-decide
 slice-aggregate-decide c = sym (length-take-le (c .before .before .before .before .before .before .args .room) (c .before .before .before .before .before .before .args .work .now) (c .before .before .before .before .before .before .pre .1))
 
--- src/lib.rt:134:9
 decide-requires : tie.Need-decide-requires
 decide-requires c κs = let l = length-take-le (c .before .before .before .before .before .before .args .room) (c .before .before .before .before .before .before .args .work .now) (c .before .before .before .before .before .before .pre .1) in let a = c .before .before .before .before .before .before .pre .0 in omega arith
 
--- src/lib.rt:135:5
 clear-requires : tie.Need-clear-requires
 clear-requires c κs = search needs
 
--- src/lib.rt:130:1
 same-length : tie.Need-same-length
 same-length c = search needs
 
--- src/lib.rt:130:1
 same-length-2 : tie.Need-same-length-2
 same-length-2 c = search needs
 
--- src/lib.rt:130:1
 returns : tie.Need-returns
 returns c = cleared-after (preparedOf cellOf (c .before .before .before .before .before .before .before .before .before .before .before .before .before .before .before .args .text .now) (c .before .before .before .before .before .before .before .before .before .before .before .before .before .before .before .args .list .now)) (c .before .before .before .before .before .before .before .before .decide .result) (c .before .before .before .before .before .before .before .before .before .before .before .before .before .before .before .args .out .now) (c .before .before .before .before .before .before .before .before .decide .last .1 .1 .0) (c .before .before .before .before .before .before .before .before .decide .last .1 .1 .1 .0) (c .before .before .before .before .before .before .before .before .before .before .before .before .before .before .before .args .work .now) (c .before .before .clear .last .0) (c .before .before .before .before .before .before .before .before .before .before .before .before .before .before .before .args .room) (c .before .before .before .before .before .before .before .before .decide .ensures) (c .before .before .clear .ensures) (c .before .before .before .before .before .before .before .before .decide .kept .1 .1 .1 .0 ∙ length-take-le (c .before .before .before .before .before .before .before .before .before .before .before .before .before .before .before .args .room) (c .before .before .before .before .before .before .before .before .before .before .before .before .before .before .before .args .work .now) (c .before .before .before .before .before .before .before .before .before .before .before .before .before .before .before .pre .1))
 

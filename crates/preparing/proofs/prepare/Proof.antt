@@ -4,23 +4,18 @@ use borrow.Author.Needs.{needs}
 use Rattle.preparing.proofs.prepare.Statement.{statement}
 use Rattle.preparing.proofs.prepare.Tie as tie
 
--- src/lib.rt:144:9
 returns : tie.Need-returns
 returns c = short-room cellOf (c .before .before .before .before .before .args .text .now) (c .before .before .before .before .before .args .list .now) (c .before .before .before .before .before .args .out .now) (c .before .before .before .before .before .args .work .now) (c .if1 .taken)
 
--- src/lib.rt:146:5
 in-room-requires : tie.Need-in-room-requires
 in-room-requires c κs = search needs
 
--- src/lib.rt:140:1
 same-length : tie.Need-same-length
 same-length c = search needs
 
--- src/lib.rt:140:1
 same-length-2 : tie.Need-same-length-2
 same-length-2 c = search needs
 
--- src/lib.rt:140:1
 returns-2 : tie.Need-returns-2
 returns-2 c = whole-room cellOf (c .before .before .before .before .before .before .before .before .before .before .before .before .args .text .now) (c .before .before .before .before .before .before .before .before .before .before .before .before .args .list .now) (c .before .before .before .before .before .before .before .before .before .before .before .before .args .out .now) (c .before .before .before .before .before .before .before .before .before .before .before .before .args .work .now) _ (c .before .before .before .before .before .before .before .if1 .left) (c .before .before .before .before .in-room .ensures)
 

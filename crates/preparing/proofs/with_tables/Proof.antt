@@ -3,71 +3,54 @@ use borrow.Author.Needs.{needs}
 use Rattle.preparing.proofs.with_tables.Statement.{statement}
 use Rattle.preparing.proofs.with_tables.Tie as tie
 
--- src/lib.rt:64:13
 fold-in-requires : tie.Need-fold-in-requires
 fold-in-requires c κs = lent-ready (c .before .before .before .before .before .before .before .before .before .before .before .before .args .records .now) (c .before .before .before .before .before .before .before .before .before .before .before .before .args .list .now) _ _ _ _ (c .before .before .before .before .before .before .before .before .before .before .before .before .args .need) _ (c .before .before .before .before .before .before .before .before .before .before .before .before .pre) (lent-none (c .before .before .before .before .before .before .before .before .before .before .before .before .args .need) _ _ _ _ (c .before .before .before .before .before .before .if2 .taken))
 
--- src/lib.rt:64:13
 same-length : tie.Need-same-length
 same-length c = search needs
 
--- src/lib.rt:64:13
 same-length-2 : tie.Need-same-length-2
 same-length-2 c = search needs
 
--- src/lib.rt:64:13
 returns : tie.Need-returns
 returns c = c .before .before .before .before .fold-in .ensures
 
--- src/lib.rt:66:19
 table-requires : tie.Need-table-requires
 table-requires c κs = search needs
 
--- src/lib.rt:67:9
 fold-in-requires-2 : tie.Need-fold-in-requires-2
 fold-in-requires-2 c κs = lent-ready (c .before .before .before .before .before .before .before .before .before .before .before .before .before .args .records .now) (c .before .before .before .before .before .before .before .before .before .before .before .before .before .args .list .now) _ _ _ _ (c .before .before .before .before .before .before .before .before .before .before .before .before .before .args .need) _ (c .before .before .before .before .before .before .before .before .before .before .before .before .before .pre) (lent-seal (c .before .before .before .before .before .before .before .before .before .before .before .before .before .args .need) _ _ _ _ (c .before .before .before .before .before .before .before .before .if1 .taken) (c .before .before .before .before .before .before .table .ensures))
 
--- src/lib.rt:67:9
 same-length-3 : tie.Need-same-length-3
 same-length-3 c = search needs
 
--- src/lib.rt:67:9
 same-length-4 : tie.Need-same-length-4
 same-length-4 c = search needs
 
--- src/lib.rt:67:9
 returns-2 : tie.Need-returns-2
 returns-2 c = c .before .before .before .before .fold-in2 .ensures
 
--- src/lib.rt:69:15
 table-requires-2 : tie.Need-table-requires-2
 table-requires-2 c κs = search needs
 
--- src/lib.rt:70:16
 table-requires-3 : tie.Need-table-requires-3
 table-requires-3 c κs = search needs
 
--- src/lib.rt:71:13
 forward-requires : tie.Need-forward-requires
 forward-requires c κs = search needs
 
--- src/lib.rt:72:13
 backward-requires : tie.Need-backward-requires
 backward-requires c κs = search needs
 
--- src/lib.rt:73:5
 fold-in-requires-3 : tie.Need-fold-in-requires-3
 fold-in-requires-3 c κs = lent-ready (c .before .before .before .before .before .before .before .before .before .before .before .before .before .before .before .args .records .now) (c .before .before .before .before .before .before .before .before .before .before .before .before .before .before .before .args .list .now) _ _ _ _ (c .before .before .before .before .before .before .before .before .before .before .before .before .before .before .before .args .need) _ (c .before .before .before .before .before .before .before .before .before .before .before .before .before .before .before .pre) (lent-all (c .before .before .before .before .before .before .before .before .before .before .before .before .before .before .before .args .need) _ _ _ _ (c .before .before .before .before .before .before .before .before .before .table2 .ensures) (c .before .before .before .before .before .before .before .before .table3 .ensures) (c .before .before .before .before .before .before .before .forward .ensures) (c .before .before .before .before .before .before .backward .ensures))
 
--- src/lib.rt:50:1
 same-length-5 : tie.Need-same-length-5
 same-length-5 c = search needs
 
--- src/lib.rt:50:1
 same-length-6 : tie.Need-same-length-6
 same-length-6 c = search needs
 
--- src/lib.rt:50:1
 returns-3 : tie.Need-returns-3
 returns-3 c = c .before .before .before .before .fold-in3 .ensures
 

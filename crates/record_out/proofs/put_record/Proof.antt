@@ -6,23 +6,18 @@ use borrow.Author.Needs.{needs}
 use Rattle.record_out.proofs.put_record.Statement.{statement}
 use Rattle.record_out.proofs.put_record.Tie as tie
 
--- src/lib.rt:34:23
 add-put : tie.Need-add-put
 add-put c = search needs
 
--- src/lib.rt:34:5
 put-requires : tie.Need-put-requires
 put-requires c κs = search needs
 
--- src/lib.rt:35:5
 put-head-requires : tie.Need-put-head-requires
 put-head-requires c κs = search needs
 
--- src/lib.rt:30:1
 same-length : tie.Need-same-length
 same-length c = search needs
 
--- src/lib.rt:30:1
 returns : tie.Need-returns
 unfolding put
 returns c = head-before (c .before .before .before .before .before .before .before .before .before .before .args .out .now) (c .before .before .before .before .before .before .put .last .0) (c .before .before .put-head .last .0) (c .before .before .before .before .before .before .before .before .before .before .args .o) (c .before .before .before .before .before .before .before .before .before .before .args .k) (length (c .before .before .before .before .before .before .before .before .before .before .args .v .now)) (c .before .before .before .before .before .before .before .before .before .before .args .v .now) (c .before .before .before .before .before .before .before .before .before .before .pre .0) (c .before .before .before .before .before .before .put .ensures) refl (c .before .before .put-head .ensures)

@@ -13,27 +13,21 @@ use Rattle.rounds.proofs.keyed2.Reads as reads
 use Rattle.rounds.proofs.keyed2.Lts as lts
 use Rattle.rounds.proofs.keyed_pair.Reads as keyed-pair-reads
 
--- src/lib.rt:22:13
 mul-w : tie.Need-mul-w
 mul-w c = search needs
 
--- src/lib.rt:23:30
 array-read-keyed-pair : tie.Need-array-read-keyed-pair
 array-read-keyed-pair c = search needs
 
--- src/lib.rt:23:36
 array-read-keyed-pair-2 : tie.Need-array-read-keyed-pair-2
 array-read-keyed-pair-2 c = search needs
 
--- src/lib.rt:23:5
 keyed-pair-requires : tie.Need-keyed-pair-requires
 keyed-pair-requires c κs = search needs
 
--- src/lib.rt:18:1
 same-length : tie.Need-same-length
 same-length c = search needs
 
--- src/lib.rt:18:1
 returns : tie.Need-returns
 unfolding putWords
 returns c = two-more (now (c .before .before .before .before .before .before .args .s)) (now (c .before .before .before .before .before .before .args .s)) (c .before .before .keyed-pair .last .0) (2 * c .before .before .before .before .before .before .args .b) 0 (λ j. xor (getD (c .before .before .before .before .before .before .args .t5) j 0) (getD (now (c .before .before .before .before .before .before .args .ks)) (c .before .before .before .before .before .before .args .at + j) 0)) _ _ _ refl (omega arith) (c .before .before .keyed-pair .ensures) (ap (λ n. xor (getD (c .before .before .before .before .before .before .args .t5) 0 0) (getD (now (c .before .before .before .before .before .before .args .ks)) n 0)) (omega arith)) (ap (λ n. xor (getD (c .before .before .before .before .before .before .args .t5) 1 0) (getD (now (c .before .before .before .before .before .before .args .ks)) n 0)) (omega arith))

@@ -13,87 +13,66 @@ use Rattle.rounds.proofs.keyed8.Reads as reads
 use Rattle.rounds.proofs.keyed8.Lts as lts
 use Rattle.rounds.proofs.keyed_pair.Reads as keyed-pair-reads
 
--- src/lib.rt:41:13
 mul-w : tie.Need-mul-w
 mul-w c = search needs
 
--- src/lib.rt:42:30
 array-read-keyed-pair : tie.Need-array-read-keyed-pair
 array-read-keyed-pair c = search needs
 
--- src/lib.rt:42:36
 array-read-keyed-pair-2 : tie.Need-array-read-keyed-pair-2
 array-read-keyed-pair-2 c = search needs
 
--- src/lib.rt:42:5
 keyed-pair-requires : tie.Need-keyed-pair-requires
 keyed-pair-requires c κs = search needs
 
--- src/lib.rt:43:19
 add-keyed-pair : tie.Need-add-keyed-pair
 add-keyed-pair c = search needs
 
--- src/lib.rt:43:30
 add-keyed-pair-2 : tie.Need-add-keyed-pair-2
 add-keyed-pair-2 c = search needs
 
--- src/lib.rt:43:38
 array-read-keyed-pair-3 : tie.Need-array-read-keyed-pair-3
 array-read-keyed-pair-3 c = search needs
 
--- src/lib.rt:43:44
 array-read-keyed-pair-4 : tie.Need-array-read-keyed-pair-4
 array-read-keyed-pair-4 c = search needs
 
--- src/lib.rt:43:5
 keyed-pair-requires-2 : tie.Need-keyed-pair-requires-2
 keyed-pair-requires-2 c κs = search needs
 
--- src/lib.rt:44:19
 add-keyed-pair-3 : tie.Need-add-keyed-pair-3
 add-keyed-pair-3 c = search needs
 
--- src/lib.rt:44:30
 add-keyed-pair-4 : tie.Need-add-keyed-pair-4
 add-keyed-pair-4 c = search needs
 
--- src/lib.rt:44:38
 array-read-keyed-pair-5 : tie.Need-array-read-keyed-pair-5
 array-read-keyed-pair-5 c = search needs
 
--- src/lib.rt:44:44
 array-read-keyed-pair-6 : tie.Need-array-read-keyed-pair-6
 array-read-keyed-pair-6 c = search needs
 
--- src/lib.rt:44:5
 keyed-pair-requires-3 : tie.Need-keyed-pair-requires-3
 keyed-pair-requires-3 c κs = search needs
 
--- src/lib.rt:45:19
 add-keyed-pair-5 : tie.Need-add-keyed-pair-5
 add-keyed-pair-5 c = search needs
 
--- src/lib.rt:45:30
 add-keyed-pair-6 : tie.Need-add-keyed-pair-6
 add-keyed-pair-6 c = search needs
 
--- src/lib.rt:45:38
 array-read-keyed-pair-7 : tie.Need-array-read-keyed-pair-7
 array-read-keyed-pair-7 c = search needs
 
--- src/lib.rt:45:44
 array-read-keyed-pair-8 : tie.Need-array-read-keyed-pair-8
 array-read-keyed-pair-8 c = search needs
 
--- src/lib.rt:45:5
 keyed-pair-requires-4 : tie.Need-keyed-pair-requires-4
 keyed-pair-requires-4 c κs = search needs
 
--- src/lib.rt:37:1
 same-length : tie.Need-same-length
 same-length c = search needs
 
--- src/lib.rt:37:1
 returns : tie.Need-returns
 unfolding putWords
 returns c = two-more (now (c .before .before .before .before .before .before .before .before .before .before .before .before .before .before .before .before .before .before .args .s)) (c .before .before .before .before .before .before .keyed-pair3 .last .0) (c .before .before .keyed-pair4 .last .0) (8 * c .before .before .before .before .before .before .before .before .before .before .before .before .before .before .before .before .before .before .args .b) 6 (λ j. xor (getD (c .before .before .before .before .before .before .before .before .before .before .before .before .before .before .before .before .before .before .args .t5) j 0) (getD (now (c .before .before .before .before .before .before .before .before .before .before .before .before .before .before .before .before .before .before .args .ks)) (c .before .before .before .before .before .before .before .before .before .before .before .before .before .before .before .before .before .before .args .at + j) 0)) _ _ _ (two-more (now (c .before .before .before .before .before .before .before .before .before .before .before .before .before .before .before .before .before .before .args .s)) (c .before .before .before .before .before .before .before .before .before .before .keyed-pair2 .last .0) (c .before .before .before .before .before .before .keyed-pair3 .last .0) (8 * c .before .before .before .before .before .before .before .before .before .before .before .before .before .before .before .before .before .before .args .b) 4 (λ j. xor (getD (c .before .before .before .before .before .before .before .before .before .before .before .before .before .before .before .before .before .before .args .t5) j 0) (getD (now (c .before .before .before .before .before .before .before .before .before .before .before .before .before .before .before .before .before .before .args .ks)) (c .before .before .before .before .before .before .before .before .before .before .before .before .before .before .before .before .before .before .args .at + j) 0)) _ _ _ (two-more (now (c .before .before .before .before .before .before .before .before .before .before .before .before .before .before .before .before .before .before .args .s)) (c .before .before .before .before .before .before .before .before .before .before .before .before .before .before .keyed-pair .last .0) (c .before .before .before .before .before .before .before .before .before .before .keyed-pair2 .last .0) (8 * c .before .before .before .before .before .before .before .before .before .before .before .before .before .before .before .before .before .before .args .b) 2 (λ j. xor (getD (c .before .before .before .before .before .before .before .before .before .before .before .before .before .before .before .before .before .before .args .t5) j 0) (getD (now (c .before .before .before .before .before .before .before .before .before .before .before .before .before .before .before .before .before .before .args .ks)) (c .before .before .before .before .before .before .before .before .before .before .before .before .before .before .before .before .before .before .args .at + j) 0)) _ _ _ (two-more (now (c .before .before .before .before .before .before .before .before .before .before .before .before .before .before .before .before .before .before .args .s)) (now (c .before .before .before .before .before .before .before .before .before .before .before .before .before .before .before .before .before .before .args .s)) (c .before .before .before .before .before .before .before .before .before .before .before .before .before .before .keyed-pair .last .0) (8 * c .before .before .before .before .before .before .before .before .before .before .before .before .before .before .before .before .before .before .args .b) 0 (λ j. xor (getD (c .before .before .before .before .before .before .before .before .before .before .before .before .before .before .before .before .before .before .args .t5) j 0) (getD (now (c .before .before .before .before .before .before .before .before .before .before .before .before .before .before .before .before .before .before .args .ks)) (c .before .before .before .before .before .before .before .before .before .before .before .before .before .before .before .before .before .before .args .at + j) 0)) _ _ _ refl (omega arith) (c .before .before .before .before .before .before .before .before .before .before .before .before .before .before .keyed-pair .ensures) (ap (λ n. xor (getD (c .before .before .before .before .before .before .before .before .before .before .before .before .before .before .before .before .before .before .args .t5) 0 0) (getD (now (c .before .before .before .before .before .before .before .before .before .before .before .before .before .before .before .before .before .before .args .ks)) n 0)) (omega arith)) (ap (λ n. xor (getD (c .before .before .before .before .before .before .before .before .before .before .before .before .before .before .before .before .before .before .args .t5) 1 0) (getD (now (c .before .before .before .before .before .before .before .before .before .before .before .before .before .before .before .before .before .before .args .ks)) n 0)) (omega arith))) (omega arith) (c .before .before .before .before .before .before .before .before .before .before .keyed-pair2 .ensures) (ap (λ n. xor (getD (c .before .before .before .before .before .before .before .before .before .before .before .before .before .before .before .before .before .before .args .t5) 2 0) (getD (now (c .before .before .before .before .before .before .before .before .before .before .before .before .before .before .before .before .before .before .args .ks)) n 0)) (omega arith)) (ap (λ n. xor (getD (c .before .before .before .before .before .before .before .before .before .before .before .before .before .before .before .before .before .before .args .t5) 3 0) (getD (now (c .before .before .before .before .before .before .before .before .before .before .before .before .before .before .before .before .before .before .args .ks)) n 0)) (omega arith))) (omega arith) (c .before .before .before .before .before .before .keyed-pair3 .ensures) (ap (λ n. xor (getD (c .before .before .before .before .before .before .before .before .before .before .before .before .before .before .before .before .before .before .args .t5) 4 0) (getD (now (c .before .before .before .before .before .before .before .before .before .before .before .before .before .before .before .before .before .before .args .ks)) n 0)) (omega arith)) (ap (λ n. xor (getD (c .before .before .before .before .before .before .before .before .before .before .before .before .before .before .before .before .before .before .args .t5) 5 0) (getD (now (c .before .before .before .before .before .before .before .before .before .before .before .before .before .before .before .before .before .before .args .ks)) n 0)) (omega arith))) (omega arith) (c .before .before .keyed-pair4 .ensures) (ap (λ n. xor (getD (c .before .before .before .before .before .before .before .before .before .before .before .before .before .before .before .before .before .before .args .t5) 6 0) (getD (now (c .before .before .before .before .before .before .before .before .before .before .before .before .before .before .before .before .before .before .args .ks)) n 0)) (omega arith)) (ap (λ n. xor (getD (c .before .before .before .before .before .before .before .before .before .before .before .before .before .before .before .before .before .before .args .t5) 7 0) (getD (now (c .before .before .before .before .before .before .before .before .before .before .before .before .before .before .before .before .before .before .args .ks)) n 0)) (omega arith))

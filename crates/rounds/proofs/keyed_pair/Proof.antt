@@ -11,51 +11,39 @@ use Rattle.rounds.proofs.keyed_pair.Lts as lts
 use Rattle.field.proofs.x64.Reads as x64-reads
 use Rattle.words.proofs.put_word.Reads as put-word-reads
 
--- src/lib.rt:13:41
 mul-x64 : tie.Need-mul-x64
 mul-x64 c = search needs
 
--- src/lib.rt:13:41
 shared-slice-read-x64 : tie.Need-shared-slice-read-x64
 shared-slice-read-x64 c = search needs
 
--- src/lib.rt:13:27
 x64-requires : tie.Need-x64-requires
 x64-requires c κs = search needs
 
--- src/lib.rt:13:5
 put-word-requires : tie.Need-put-word-requires
 put-word-requires c κs = search needs
 
--- src/lib.rt:14:24
 add-put-word : tie.Need-add-put-word
 add-put-word c = search needs
 
--- src/lib.rt:14:48
 add-x64 : tie.Need-add-x64
 add-x64 c = search needs
 
--- src/lib.rt:14:45
 mul-x64-2 : tie.Need-mul-x64-2
 mul-x64-2 c = search needs
 
--- src/lib.rt:14:45
 shared-slice-read-x64-2 : tie.Need-shared-slice-read-x64-2
 shared-slice-read-x64-2 c = search needs
 
--- src/lib.rt:14:31
 x64-requires-2 : tie.Need-x64-requires-2
 x64-requires-2 c κs = search needs
 
--- src/lib.rt:14:5
 put-word-requires-2 : tie.Need-put-word-requires-2
 put-word-requires-2 c κs = search needs
 
--- src/lib.rt:9:1
 same-length : tie.Need-same-length
 same-length c = search needs
 
--- src/lib.rt:9:1
 returns : tie.Need-returns
 returns c = c .before .before .put-word2 .ensures ∙ ap₂ (λ (l : List ℕ) (v : ℕ). putWord l (c .before .before .before .before .before .before .before .before .before .before .before .before .before .before .args .w + 1) v) (c .before .before .before .before .before .before .before .before .put-word .ensures ∙ ap (putWord (now (c .before .before .before .before .before .before .before .before .before .before .before .before .before .before .args .s)) (c .before .before .before .before .before .before .before .before .before .before .before .before .before .before .args .w)) (c .before .before .before .before .before .before .before .before .before .x64 .ensures)) (c .before .before .before .x642 .ensures)
 

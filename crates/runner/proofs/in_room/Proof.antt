@@ -7,31 +7,24 @@ use borrow.Author.Needs.{needs}
 use Rattle.runner.proofs.in_room.Statement.{statement}
 use Rattle.runner.proofs.in_room.Tie as tie
 
--- src/lib.rt:135:35
 slice-relend-prefix-ran : tie.Need-slice-relend-prefix-ran
 slice-relend-prefix-ran c = search needs
 
--- src/lib.rt:135:35
 slice-aggregate-ran : tie.Need-slice-aggregate-ran
 slice-aggregate-ran c = sym (length-take-le (c .before .before .before .before .before .before .args .room) (c .before .before .before .before .before .before .args .work .now) (c .before .before .before .before .before .before .pre .1))
 
--- src/lib.rt:135:9
 ran-requires : tie.Need-ran-requires
 ran-requires c κs = omega (arith, length-take-le (c .before .before .before .before .before .before .args .room) (c .before .before .before .before .before .before .args .work .now) (c .before .before .before .before .before .before .pre .1), c .before .before .before .before .before .before .pre .0)
 
--- src/lib.rt:136:5
 clear-requires : tie.Need-clear-requires
 clear-requires c κs = search needs
 
--- src/lib.rt:125:1
 same-length : tie.Need-same-length
 same-length c = search needs
 
--- src/lib.rt:125:1
 same-length-2 : tie.Need-same-length-2
 same-length-2 c = search needs
 
--- src/lib.rt:125:1
 returns : tie.Need-returns
 returns c = (c .before .before .before .before .before .before .before .before .ran .ensures, c .before .before .clear .ensures ∙ cleared-front (c .before .before .before .before .before .before .before .before .before .before .before .before .before .before .before .args .room) (c .before .before .before .before .before .before .before .before .before .before .before .before .before .before .before .args .work .now) (c .before .before .before .before .before .before .before .before .ran .last .1 .1 .1 .0) (c .before .before .before .before .before .before .before .before .ran .kept .1 .1 .1 .0 ∙ length-take-le (c .before .before .before .before .before .before .before .before .before .before .before .before .before .before .before .args .room) (c .before .before .before .before .before .before .before .before .before .before .before .before .before .before .before .args .work .now) (c .before .before .before .before .before .before .before .before .before .before .before .before .before .before .before .pre .1)))
 

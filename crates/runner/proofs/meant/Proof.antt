@@ -5,67 +5,51 @@ use borrow.Author.Needs.{needs}
 use Rattle.runner.proofs.meant.Statement.{statement}
 use Rattle.runner.proofs.meant.Tie as tie
 
--- src/lib.rt:96:8
 word-at-requires : tie.Need-word-at-requires
 word-at-requires c κs = omega (arith, sound-head (c .before .before .before .before .args .image .now) (c .before .before .before .before .args .list .now) (c .before .before .before .before .args .need) (c .before .before .before .before .pre .0))
 
--- src/lib.rt:97:9
 give-leaf-requires : tie.Need-give-leaf-requires
 give-leaf-requires c κs = search needs
 
--- src/lib.rt:97:9
 same-length : tie.Need-same-length
 same-length c = search needs
 
--- src/lib.rt:97:9
 returns : tie.Need-returns
 returns c = root-leaf (c .before .before .before .before .before .before .before .before .before .before .args .image .now) (c .before .before .before .before .before .before .before .before .before .before .args .list .now) (c .before .before .before .before .before .before .before .before .before .before .args .need) (c .before .before .before .before .before .before .before .before .before .before .pre .0) _ (c .before .before .before .before .before .before .before .before .before .before .args .out .now) (λ i. omega (arith, c .before .before .before .before .before .before .before .before .shared-slice-known2 .given i)) (omega (arith, c .before .before .before .before .before .word-at .ensures .0, c .before .before .before .before .if1 .taken)) (c .before .before .give-leaf .ensures)
 
--- src/lib.rt:100:9
 with-none-requires : tie.Need-with-none-requires
 with-none-requires c κs = (sound-as (c .before .before .before .before .before .before .before .before .before .args .image .now) (c .before .before .before .before .before .before .before .before .before .args .list .now) (c .before .before .before .before .before .before .before .before .before .args .need) 0 (c .before .before .if2 .taken) (c .before .before .before .before .before .before .before .before .before .pre .0), c .before .before .before .before .before .before .before .before .before .pre .1)
 
--- src/lib.rt:100:9
 same-length-2 : tie.Need-same-length-2
 same-length-2 c = search needs
 
--- src/lib.rt:100:9
 same-length-3 : tie.Need-same-length-3
 same-length-3 c = search needs
 
--- src/lib.rt:100:9
 returns-2 : tie.Need-returns-2
 returns-2 c = search needs
 
--- src/lib.rt:103:9
 with-sealing-requires : tie.Need-with-sealing-requires
 with-sealing-requires c κs = (sound-as (c .before .before .before .before .before .before .before .before .before .before .args .image .now) (c .before .before .before .before .before .before .before .before .before .before .args .list .now) (c .before .before .before .before .before .before .before .before .before .before .args .need) 1 (c .before .before .if3 .taken) (c .before .before .before .before .before .before .before .before .before .before .pre .0), c .before .before .before .before .before .before .before .before .before .before .pre .1)
 
--- src/lib.rt:103:9
 same-length-4 : tie.Need-same-length-4
 same-length-4 c = search needs
 
--- src/lib.rt:103:9
 same-length-5 : tie.Need-same-length-5
 same-length-5 c = search needs
 
--- src/lib.rt:103:9
 returns-3 : tie.Need-returns-3
 returns-3 c = search needs
 
--- src/lib.rt:105:5
 with-opening-requires : tie.Need-with-opening-requires
 with-opening-requires c κs = search needs
 
--- src/lib.rt:86:1
 same-length-6 : tie.Need-same-length-6
 same-length-6 c = search needs
 
--- src/lib.rt:86:1
 same-length-7 : tie.Need-same-length-7
 same-length-7 c = search needs
 
--- src/lib.rt:86:1
 returns-4 : tie.Need-returns-4
 returns-4 c = search needs
 

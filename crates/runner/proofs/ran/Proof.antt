@@ -6,43 +6,33 @@ use borrow.Author.Needs.{needs}
 use Rattle.runner.proofs.ran.Statement.{statement}
 use Rattle.runner.proofs.ran.Tie as tie
 
--- src/lib.rt:113:11
 check-requires : tie.Need-check-requires
 check-requires c κs = search needs
 
--- src/lib.rt:114:28
 enum-told : tie.Need-enum-told
 enum-told c = search needs
 
--- src/lib.rt:115:23
 enum-known-need : tie.Need-enum-known-need
 enum-known-need c = search needs
 
--- src/lib.rt:116:16
 good-requires : tie.Need-good-requires
 good-requires c κs = search needs
 
--- src/lib.rt:117:17
 meant-requires : tie.Need-meant-requires
 meant-requires c κs = (is-sound (c .before .before .before .before .before .before .before .before .before .before .before .before .args .image .now) (c .before .before .before .before .before .before .before .before .before .before .before .before .args .list .now) (c .before .before .before .before .before .before .before .check .result) (c .before .before .before .before .before .before .before .check .ensures) (c .before .before .before .before .before .need .given .0 .0) (c .before .before .before .before .before .need .given .1) (λ i. omega (arith, c .before .before .before .before .before .before .before .before .before .before .before .shared-slice-known .given i)) (sym (c .before .before .before .good2 .ensures) ∙ c .before .before .if1 .taken), c .before .before .before .before .before .before .before .before .before .before .before .before .pre)
 
--- src/lib.rt:117:17
 same-length : tie.Need-same-length
 same-length c = search needs
 
--- src/lib.rt:117:17
 same-length-2 : tie.Need-same-length-2
 same-length-2 c = search needs
 
--- src/lib.rt:117:17
 returns : tie.Need-returns
 returns c = search needs
 
--- src/lib.rt:109:1
 returns-2 : tie.Need-returns-2
 returns-2 c = refuses-28 (c .before .before .before .before .before .before .before .args .image .now) (c .before .before .before .before .before .before .before .args .list .now) (c .before .before .check .result) (c .before .before .check .ensures) (c .before .before .before .before .before .before .before .args .out .now) (c .enum-told .given .1)
 
--- src/lib.rt:109:1
 returns-3 : tie.Need-returns-3
 returns-3 c = refuses-27 (c .before .before .before .before .before .before .before .before .before .before .args .image .now) (c .before .before .before .before .before .before .before .before .before .before .args .list .now) (c .before .before .before .before .before .check .result) (c .before .before .before .before .before .check .ensures) (c .before .before .before .need .given .0 .0) (c .before .before .before .need .given .1) (c .before .before .before .before .before .before .before .before .before .before .args .out .now) (sym (c .before .good2 .ensures) ∙ c .if1 .left)
 

@@ -12,87 +12,66 @@ Inv-loop s out₀ i₀ o₀ out i o = (o ≤ length out) × (length out ≡ leng
 abbrev μ-loop : tie.MeasureT-loop
 μ-loop s out₀ i₀ o₀ out i o = length s - i
 
--- src/main.rt:146:5
 loop-holds : tie.Need-loop-holds Inv-loop μ-loop
 loop-holds c = search needs
 
--- src/main.rt:147:13
 byte-at-requires : tie.Need-byte-at-requires Inv-loop μ-loop
 byte-at-requires c κs = search needs
 
--- src/main.rt:148:12
 counted-requires : tie.Need-counted-requires Inv-loop μ-loop
 counted-requires c κs = search needs
 
--- src/main.rt:149:37
 add-byte-at : tie.Need-add-byte-at Inv-loop μ-loop
 add-byte-at c = search needs
 
--- src/main.rt:149:26
 byte-at-requires-2 : tie.Need-byte-at-requires-2 Inv-loop μ-loop
 byte-at-requires-2 c κs = search needs
 
--- src/main.rt:149:21
 wide-requires : tie.Need-wide-requires Inv-loop μ-loop
 wide-requires c κs = search needs
 
--- src/main.rt:149:21
 mul-n : tie.Need-mul-n Inv-loop μ-loop
 mul-n c = omega (arith, c .wide .ensures)
 
--- src/main.rt:149:69
 add-byte-at-2 : tie.Need-add-byte-at-2 Inv-loop μ-loop
 add-byte-at-2 c = search needs
 
--- src/main.rt:149:58
 byte-at-requires-3 : tie.Need-byte-at-requires-3 Inv-loop μ-loop
 byte-at-requires-3 c κs = search needs
 
--- src/main.rt:149:53
 wide-requires-2 : tie.Need-wide-requires-2 Inv-loop μ-loop
 wide-requires-2 c κs = search needs
 
--- src/main.rt:149:21
 add-n : tie.Need-add-n Inv-loop μ-loop
 add-n c = omega (arith, c .before .before .wide .ensures, c .wide2 .ensures)
 
--- src/main.rt:150:13
 put-requires : tie.Need-put-requires Inv-loop μ-loop
 put-requires c κs = search needs
 
--- src/main.rt:151:13
 add-i : tie.Need-add-i Inv-loop μ-loop
 add-i c = search needs
 
--- src/main.rt:146:5
 loop-less : tie.Need-loop-less Inv-loop μ-loop
 loop-less c = search needs
 
--- src/main.rt:146:5
 loop-again : tie.Need-loop-again Inv-loop μ-loop
 loop-again c = (c .before .before .put .ensures, omega (arith, c .before .before .put .kept .0, c .before .before .before .before .before .before .before .before .before .before .before .before .loop .inv .1))
 
--- src/main.rt:153:13
 put-requires-2 : tie.Need-put-requires-2 Inv-loop μ-loop
 put-requires-2 c κs = search needs
 
--- src/main.rt:154:13
 add-i-2 : tie.Need-add-i-2 Inv-loop μ-loop
 add-i-2 c = search needs
 
--- src/main.rt:146:5
 loop-less-2 : tie.Need-loop-less-2 Inv-loop μ-loop
 loop-less-2 c = search needs
 
--- src/main.rt:146:5
 loop-again-2 : tie.Need-loop-again-2 Inv-loop μ-loop
 loop-again-2 c = (c .before .before .put2 .ensures, omega (arith, c .before .before .put2 .kept .0, c .before .before .before .before .before .before .before .before .loop .inv .1))
 
--- src/main.rt:140:1
 same-length : tie.Need-same-length Inv-loop μ-loop
 same-length c = c .before .loop .inv .1
 
--- src/main.rt:140:1
 returns : tie.Need-returns Inv-loop μ-loop
 returns c = c .before .loop .inv .0
 

@@ -12,51 +12,39 @@ use Rattle.runs.proofs.least.Reads as least-reads
 use Rattle.runs.proofs.put.Reads as put-reads
 use Rattle.runs.proofs.with_bytes.Reads as with-bytes-reads
 
--- src/main.rt:282:17
 slice-aggregate-put : tie.Need-slice-aggregate-put
 slice-aggregate-put c = search needs
 
--- src/main.rt:282:36
 least-requires : tie.Need-least-requires
 least-requires c κs = search needs
 
--- src/main.rt:282:9
 put-requires : tie.Need-put-requires
 put-requires c κs = search needs
 
--- src/main.rt:284:17
 slice-aggregate-put-2 : tie.Need-slice-aggregate-put-2
 slice-aggregate-put-2 c = search needs
 
--- src/main.rt:284:37
 least-requires-2 : tie.Need-least-requires-2
 least-requires-2 c κs = search needs
 
--- src/main.rt:284:9
 put-requires-2 : tie.Need-put-requires-2
 put-requires-2 c κs = search needs
 
--- src/main.rt:285:30
 array-borrow-prefix-out : tie.Need-array-borrow-prefix-out
 array-borrow-prefix-out c = search needs
 
--- src/main.rt:285:30
 slice-aggregate-with-bytes : tie.Need-slice-aggregate-with-bytes
 slice-aggregate-with-bytes c = sym (length-take-le (c .before .before .before .before .before .before .put .result) (c .before .before .before .before .before .before .put .last .0) (c .before .before .before .before .before .before .put .ensures))
 
--- src/main.rt:285:45
 array-borrow-prefix-work : tie.Need-array-borrow-prefix-work
 array-borrow-prefix-work c = search needs
 
--- src/main.rt:285:45
 slice-aggregate-with-bytes-2 : tie.Need-slice-aggregate-with-bytes-2
 slice-aggregate-with-bytes-2 c = sym (length-take-le (c .before .before .before .put2 .result) (c .before .before .before .put2 .last .0) (c .before .before .before .put2 .ensures))
 
--- src/main.rt:285:5
 with-bytes-requires : tie.Need-with-bytes-requires
 with-bytes-requires c κs = search needs
 
--- src/main.rt:278:1
 returns : tie.Need-returns
 returns c = search needs
 

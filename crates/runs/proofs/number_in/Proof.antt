@@ -16,31 +16,24 @@ Inv-loop s v₀ i₀ v i = i ≤ length s
 abbrev μ-loop : tie.MeasureT-loop
 μ-loop s v₀ i₀ v i = length s - i
 
--- src/main.rt:62:5
 loop-holds : tie.Need-loop-holds Inv-loop μ-loop
 loop-holds c = search needs
 
--- src/main.rt:63:22
 shared-slice-read-grown : tie.Need-shared-slice-read-grown Inv-loop μ-loop
 shared-slice-read-grown c = search needs
 
--- src/main.rt:63:9
 grown-requires : tie.Need-grown-requires Inv-loop μ-loop
 grown-requires c κs = search needs
 
--- src/main.rt:64:9
 add-i : tie.Need-add-i Inv-loop μ-loop
 add-i c = search needs
 
--- src/main.rt:62:5
 loop-less : tie.Need-loop-less Inv-loop μ-loop
 loop-less c = search needs
 
--- src/main.rt:62:5
 loop-again : tie.Need-loop-again Inv-loop μ-loop
 loop-again c = search needs
 
--- src/main.rt:59:1
 returns : tie.Need-returns Inv-loop μ-loop
 returns c = search needs
 

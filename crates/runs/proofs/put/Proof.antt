@@ -11,35 +11,27 @@ Inv-loop out₀ o b n e at₀ out at = (at ≤ e) × (e ≤ length out) × (leng
 abbrev μ-loop : tie.MeasureT-loop
 μ-loop out₀ o b n e at₀ out at = e - at
 
--- src/main.rt:130:9
 end-of-requires : tie.Need-end-of-requires Inv-loop μ-loop
 end-of-requires c κs = search needs
 
--- src/main.rt:132:5
 loop-holds : tie.Need-loop-holds Inv-loop μ-loop
 loop-holds c = search needs
 
--- src/main.rt:133:9
 slice-write-out : tie.Need-slice-write-out Inv-loop μ-loop
 slice-write-out c = search needs
 
--- src/main.rt:134:9
 add-at : tie.Need-add-at Inv-loop μ-loop
 add-at c = search needs
 
--- src/main.rt:132:5
 loop-less : tie.Need-loop-less Inv-loop μ-loop
 loop-less c = search needs
 
--- src/main.rt:132:5
 loop-again : tie.Need-loop-again Inv-loop μ-loop
 loop-again c = search needs
 
--- src/main.rt:126:1
 same-length : tie.Need-same-length Inv-loop μ-loop
 same-length c = search needs
 
--- src/main.rt:126:1
 returns : tie.Need-returns Inv-loop μ-loop
 returns c = search needs
 

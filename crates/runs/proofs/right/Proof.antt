@@ -5,87 +5,66 @@ use borrow.Author.Needs.{needs}
 use Rattle.runs.proofs.right.Statement.{statement}
 use Rattle.runs.proofs.right.Tie as tie
 
--- src/main.rt:292:9
 place-of-requires : tie.Need-place-of-requires
 place-of-requires c κs = search needs
 
--- src/main.rt:293:9
 past-requires : tie.Need-past-requires
 past-requires c κs = search needs
 
--- src/main.rt:294:9
 place-of-requires-2 : tie.Need-place-of-requires-2
 place-of-requires-2 c κs = search needs
 
--- src/main.rt:295:9
 past-requires-2 : tie.Need-past-requires-2
 past-requires-2 c κs = search needs
 
--- src/main.rt:296:9
 place-of-requires-3 : tie.Need-place-of-requires-3
 place-of-requires-3 c κs = search needs
 
--- src/main.rt:297:9
 past-requires-3 : tie.Need-past-requires-3
 past-requires-3 c κs = search needs
 
--- src/main.rt:299:9
 sub-in-rooms : tie.Need-sub-in-rooms
 sub-in-rooms c = search needs
 
--- src/main.rt:299:9
 part-in-rooms-start : tie.Need-part-in-rooms-start
 part-in-rooms-start c = search needs
 
--- src/main.rt:299:9
 part-in-rooms-end : tie.Need-part-in-rooms-end
 part-in-rooms-end c = search needs
 
--- src/main.rt:300:19
 slice-aggregate-number-in : tie.Need-slice-aggregate-number-in
 slice-aggregate-number-in c = sym (length-take-le (c .before .before .before .before .before .before .before .place-of .result) (c .before .before .before .before .before .before .before .before .before .args .line .now) (c .before .before .before .before .before .before .before .place-of .ensures .1))
 
--- src/main.rt:300:9
 number-in-requires : tie.Need-number-in-requires
 number-in-requires c κs = search needs
 
--- src/main.rt:301:19
 sub-number-in : tie.Need-sub-number-in
 sub-number-in c = search needs
 
--- src/main.rt:301:19
 part-number-in-start : tie.Need-part-number-in-start
 part-number-in-start c = search needs
 
--- src/main.rt:301:19
 part-number-in-end : tie.Need-part-number-in-end
 part-number-in-end c = search needs
 
--- src/main.rt:301:9
 number-in-requires-2 : tie.Need-number-in-requires-2
 number-in-requires-2 c κs = search needs
 
--- src/main.rt:302:19
 sub-number-in-2 : tie.Need-sub-number-in-2
 sub-number-in-2 c = search needs
 
--- src/main.rt:302:19
 part-number-in-start-2 : tie.Need-part-number-in-start-2
 part-number-in-start-2 c = search needs
 
--- src/main.rt:302:19
 part-number-in-end-2 : tie.Need-part-number-in-end-2
 part-number-in-end-2 c = search needs
 
--- src/main.rt:302:9
 number-in-requires-3 : tie.Need-number-in-requires-3
 number-in-requires-3 c κs = search needs
 
--- src/main.rt:298:5
 in-rooms-requires : tie.Need-in-rooms-requires
 in-rooms-requires c κs = search needs
 
--- src/main.rt:289:1
 returns : tie.Need-returns
 returns c = search needs
 

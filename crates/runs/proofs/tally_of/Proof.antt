@@ -18,55 +18,42 @@ Inv-loop s rows₀ good₀ p₀ rows good p = (rows ≤ p) × (good ≤ rows) ×
 abbrev μ-loop : tie.MeasureT-loop
 μ-loop s rows₀ good₀ p₀ rows good p = length s - p
 
--- src/main.rt:328:5
 loop-holds : tie.Need-loop-holds Inv-loop μ-loop
 loop-holds c = search needs
 
--- src/main.rt:329:13
 place-of-requires : tie.Need-place-of-requires Inv-loop μ-loop
 place-of-requires c κs = search needs
 
--- src/main.rt:330:24
 sub-as-due : tie.Need-sub-as-due Inv-loop μ-loop
 sub-as-due c = search needs
 
--- src/main.rt:330:24
 part-as-due-start : tie.Need-part-as-due-start Inv-loop μ-loop
 part-as-due-start c = search needs
 
--- src/main.rt:330:24
 part-as-due-end : tie.Need-part-as-due-end Inv-loop μ-loop
 part-as-due-end c = search needs
 
--- src/main.rt:330:13
 as-due-requires : tie.Need-as-due-requires Inv-loop μ-loop
 as-due-requires c κs = search needs
 
--- src/main.rt:331:9
 add-rows : tie.Need-add-rows Inv-loop μ-loop
 add-rows c = search needs
 
--- src/main.rt:332:9
 add-good : tie.Need-add-good Inv-loop μ-loop
 add-good c = search needs
 
--- src/main.rt:334:13
 tell-requires : tie.Need-tell-requires Inv-loop μ-loop
 tell-requires c κs = search needs
 
--- src/main.rt:336:13
 add-p : tie.Need-add-p Inv-loop μ-loop
 add-p c = search needs
 
--- src/main.rt:328:5
 loop-less : tie.Need-loop-less Inv-loop μ-loop
 loop-less c = search needs
 
--- src/main.rt:328:5
 loop-again : tie.Need-loop-again Inv-loop μ-loop
 loop-again c = search needs
 
--- src/main.rt:324:1
 returns : tie.Need-returns Inv-loop μ-loop
 returns c = search needs
 

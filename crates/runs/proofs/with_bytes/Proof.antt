@@ -13,111 +13,84 @@ use Rattle.runs.proofs.past.Reads as past-reads
 use Rattle.runs.proofs.place_of.Reads as place-of-reads
 use Rattle.runs.proofs.ran.Reads as ran-reads
 
--- src/main.rt:257:9
 place-of-requires : tie.Need-place-of-requires
 place-of-requires c κs = search needs
 
--- src/main.rt:258:9
 past-requires : tie.Need-past-requires
 past-requires c κs = search needs
 
--- src/main.rt:259:9
 place-of-requires-2 : tie.Need-place-of-requires-2
 place-of-requires-2 c κs = search needs
 
--- src/main.rt:260:9
 past-requires-2 : tie.Need-past-requires-2
 past-requires-2 c κs = search needs
 
--- src/main.rt:262:21
 slice-aggregate-expand : tie.Need-slice-aggregate-expand
 slice-aggregate-expand c = sym (length-take-le (c .before .before .before .before .place-of .result) (c .before .before .before .before .before .before .before .before .args .line .now) (c .before .before .before .before .place-of .ensures .1))
 
--- src/main.rt:262:33
 slice-aggregate-expand-2 : tie.Need-slice-aggregate-expand-2
 slice-aggregate-expand-2 c = search needs
 
--- src/main.rt:262:9
 expand-requires : tie.Need-expand-requires
 expand-requires c κs = omega (arith, length-take-le (c .before .before .before .before .before .place-of .result) (c .before .before .before .before .before .before .before .before .before .args .line .now) (c .before .before .before .before .before .place-of .ensures .1), c .before .before .before .before .before .place-of .ensures .1, c .before .before .before .before .before .before .before .before .before .pre)
 
--- src/main.rt:264:21
 sub-expand : tie.Need-sub-expand
 sub-expand c = search needs
 
--- src/main.rt:264:21
 part-expand-start : tie.Need-part-expand-start
 part-expand-start c = search needs
 
--- src/main.rt:264:21
 part-expand-end : tie.Need-part-expand-end
 part-expand-end c = search needs
 
--- src/main.rt:264:34
 slice-aggregate-expand-3 : tie.Need-slice-aggregate-expand-3
 slice-aggregate-expand-3 c = search needs
 
--- src/main.rt:264:9
 expand-requires-2 : tie.Need-expand-requires-2
 expand-requires-2 c κs = search needs
 
--- src/main.rt:266:21
 sub-expand-2 : tie.Need-sub-expand-2
 sub-expand-2 c = search needs
 
--- src/main.rt:266:21
 part-expand-start-2 : tie.Need-part-expand-start-2
 part-expand-start-2 c = search needs
 
--- src/main.rt:266:21
 part-expand-end-2 : tie.Need-part-expand-end-2
 part-expand-end-2 c = search needs
 
--- src/main.rt:266:33
 slice-aggregate-expand-4 : tie.Need-slice-aggregate-expand-4
 slice-aggregate-expand-4 c = search needs
 
--- src/main.rt:266:9
 expand-requires-3 : tie.Need-expand-requires-3
 expand-requires-3 c κs = search needs
 
--- src/main.rt:268:9
 array-share-prefix-image : tie.Need-array-share-prefix-image
 array-share-prefix-image c = search needs
 
--- src/main.rt:268:9
 slice-aggregate-ran : tie.Need-slice-aggregate-ran
 slice-aggregate-ran c = sym (length-take-le (c .before .before .before .before .before .before .before .before .before .before .expand .result) (c .before .before .before .before .before .before .before .before .before .before .expand .last .1 .0) (c .before .before .before .before .before .before .before .before .before .before .expand .ensures))
 
--- src/main.rt:269:9
 array-share-prefix-list : tie.Need-array-share-prefix-list
 array-share-prefix-list c = search needs
 
--- src/main.rt:269:9
 slice-aggregate-ran-2 : tie.Need-slice-aggregate-ran-2
 slice-aggregate-ran-2 c = sym (length-take-le (c .before .before .before .before .before .before .before .expand2 .result) (c .before .before .before .before .before .before .before .expand2 .last .1 .0) (c .before .before .before .before .before .before .before .expand2 .ensures))
 
--- src/main.rt:273:9
 array-share-prefix-want : tie.Need-array-share-prefix-want
 array-share-prefix-want c = search needs
 
--- src/main.rt:273:9
 slice-aggregate-ran-3 : tie.Need-slice-aggregate-ran-3
 slice-aggregate-ran-3 c = sym (length-take-le (c .before .before .before .before .before .before .expand3 .result) (c .before .before .before .before .before .before .expand3 .last .1 .0) (c .before .before .before .before .before .before .expand3 .ensures))
 
--- src/main.rt:267:5
 ran-requires : tie.Need-ran-requires
 ran-requires c κs = search needs
 
--- src/main.rt:254:1
 same-length : tie.Need-same-length
 same-length c = search needs
 
--- src/main.rt:254:1
 same-length-2 : tie.Need-same-length-2
 same-length-2 c = search needs
 
--- src/main.rt:254:1
 returns : tie.Need-returns
 returns c = search needs
 

@@ -8,39 +8,30 @@ use Rattle.seal_alone2.proofs.first2.Lts as lts
 use Rattle.column_words.proofs.added.Reads as added-reads
 use Rattle.words.proofs.word_at.Reads as word-at-reads
 
--- src/lib.rt:53:18
 word-at-requires : tie.Need-word-at-requires
 word-at-requires c κs = search needs
 
--- src/lib.rt:53:40
 shared-slice-read-added : tie.Need-shared-slice-read-added
 shared-slice-read-added c = search needs
 
--- src/lib.rt:53:12
 added-requires : tie.Need-added-requires
 added-requires c κs = search needs
 
--- src/lib.rt:53:5
 array-write-o : tie.Need-array-write-o
 array-write-o c = search needs
 
--- src/lib.rt:54:18
 word-at-requires-2 : tie.Need-word-at-requires-2
 word-at-requires-2 c κs = search needs
 
--- src/lib.rt:54:40
 shared-slice-read-added-2 : tie.Need-shared-slice-read-added-2
 shared-slice-read-added-2 c = search needs
 
--- src/lib.rt:54:12
 added-requires-2 : tie.Need-added-requires-2
 added-requires-2 c κs = search needs
 
--- src/lib.rt:54:5
 array-write-o-2 : tie.Need-array-write-o-2
 array-write-o-2 c = search needs
 
--- src/lib.rt:48:1
 returns : tie.Need-returns
 returns c = first-2 (now (c .before .before .before .before .before .before .before .before .args .s)) (now (c .before .before .before .before .before .before .before .before .args .ks)) (c .before .before .before .before .before .word-at .result) (c .before .before .word-at2 .result) (c .before .before .before .added .result) (c .added2 .result) (c .before .before .before .before .before .word-at .ensures) (c .before .before .word-at2 .ensures) (c .before .before .before .added .ensures) (c .added2 .ensures)
 

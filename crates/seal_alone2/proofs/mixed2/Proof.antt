@@ -11,95 +11,72 @@ use Rattle.column_words.proofs.piece1.Reads as piece1-reads
 use Rattle.column_words.proofs.piece2.Reads as piece2-reads
 use Rattle.column_words.proofs.piece3.Reads as piece3-reads
 
--- src/lib.rt:62:13
 array-read-a : tie.Need-array-read-a
 array-read-a c = search needs
 
--- src/lib.rt:63:13
 array-read-b : tie.Need-array-read-b
 array-read-b c = search needs
 
--- src/lib.rt:67:9
 piece0-requires : tie.Need-piece0-requires
 piece0-requires c κs = search needs
 
--- src/lib.rt:68:9
 piece0-requires-2 : tie.Need-piece0-requires-2
 piece0-requires-2 c κs = search needs
 
--- src/lib.rt:69:9
 piece1-requires : tie.Need-piece1-requires
 piece1-requires c κs = search needs
 
--- src/lib.rt:70:9
 piece1-requires-2 : tie.Need-piece1-requires-2
 piece1-requires-2 c κs = search needs
 
--- src/lib.rt:71:9
 piece2-requires : tie.Need-piece2-requires
 piece2-requires c κs = search needs
 
--- src/lib.rt:72:9
 piece2-requires-2 : tie.Need-piece2-requires-2
 piece2-requires-2 c κs = search needs
 
--- src/lib.rt:73:9
 piece3-requires : tie.Need-piece3-requires
 piece3-requires c κs = search needs
 
--- src/lib.rt:74:9
 piece3-requires-2 : tie.Need-piece3-requires-2
 piece3-requires-2 c κs = search needs
 
--- src/lib.rt:65:12
 column-alone-requires : tie.Need-column-alone-requires
 column-alone-requires c κs = search needs
 
--- src/lib.rt:65:5
 array-write-o : tie.Need-array-write-o
 array-write-o c = search needs
 
--- src/lib.rt:78:9
 piece0-requires-3 : tie.Need-piece0-requires-3
 piece0-requires-3 c κs = search needs
 
--- src/lib.rt:79:9
 piece0-requires-4 : tie.Need-piece0-requires-4
 piece0-requires-4 c κs = search needs
 
--- src/lib.rt:80:9
 piece1-requires-3 : tie.Need-piece1-requires-3
 piece1-requires-3 c κs = search needs
 
--- src/lib.rt:81:9
 piece1-requires-4 : tie.Need-piece1-requires-4
 piece1-requires-4 c κs = search needs
 
--- src/lib.rt:82:9
 piece2-requires-3 : tie.Need-piece2-requires-3
 piece2-requires-3 c κs = search needs
 
--- src/lib.rt:83:9
 piece2-requires-4 : tie.Need-piece2-requires-4
 piece2-requires-4 c κs = search needs
 
--- src/lib.rt:84:9
 piece3-requires-3 : tie.Need-piece3-requires-3
 piece3-requires-3 c κs = search needs
 
--- src/lib.rt:85:9
 piece3-requires-4 : tie.Need-piece3-requires-4
 piece3-requires-4 c κs = search needs
 
--- src/lib.rt:76:12
 column-alone-requires-2 : tie.Need-column-alone-requires-2
 column-alone-requires-2 c κs = search needs
 
--- src/lib.rt:76:5
 array-write-o-2 : tie.Need-array-write-o-2
 array-write-o-2 c = search needs
 
--- src/lib.rt:59:1
 returns : tie.Need-returns
 returns c = block-2 (now (c .before .before .before .before .before .before .before .before .before .before .before .before .before .before .before .before .before .before .args .t)) (c .before .before .before .before .before .before .before .before .before .before .before .before .before .before .before .before .before .before .args .t2) (c .before .before .before .before .before .before .before .before .before .column-alone .result) (c .column-alone2 .result) (column-2-0 (now (c .before .before .before .before .before .before .before .before .before .before .before .before .before .before .before .before .before .before .args .t)) (c .before .before .before .before .before .before .before .before .before .before .before .before .before .before .before .before .before .before .args .t2) (c .before .before .before .before .before .before .before .before .before .column-alone .result) (c .before .before .before .before .before .before .before .before .before .before .before .before .before .before .before .before .before .piece0 .result) (c .before .before .before .before .before .before .before .before .before .before .before .before .before .before .before .before .piece02 .result) (c .before .before .before .before .before .before .before .before .before .before .before .before .before .before .before .piece1 .result) (c .before .before .before .before .before .before .before .before .before .before .before .before .before .before .piece12 .result) (c .before .before .before .before .before .before .before .before .before .before .before .before .before .piece2 .result) (c .before .before .before .before .before .before .before .before .before .before .before .before .piece22 .result) (c .before .before .before .before .before .before .before .before .before .before .before .piece3 .result) (c .before .before .before .before .before .before .before .before .before .before .piece32 .result) (c .before .before .before .before .before .before .before .before .before .column-alone .ensures) (c .before .before .before .before .before .before .before .before .before .before .before .before .before .before .before .before .before .piece0 .ensures) (c .before .before .before .before .before .before .before .before .before .before .before .before .before .before .before .before .piece02 .ensures) (c .before .before .before .before .before .before .before .before .before .before .before .before .before .before .before .piece1 .ensures) (c .before .before .before .before .before .before .before .before .before .before .before .before .before .before .piece12 .ensures) (c .before .before .before .before .before .before .before .before .before .before .before .before .before .piece2 .ensures) (c .before .before .before .before .before .before .before .before .before .before .before .before .piece22 .ensures) (c .before .before .before .before .before .before .before .before .before .before .before .piece3 .ensures) (c .before .before .before .before .before .before .before .before .before .before .piece32 .ensures)) (column-2-1 (now (c .before .before .before .before .before .before .before .before .before .before .before .before .before .before .before .before .before .before .args .t)) (c .before .before .before .before .before .before .before .before .before .before .before .before .before .before .before .before .before .before .args .t2) (c .column-alone2 .result) (c .before .before .before .before .before .before .before .before .piece03 .result) (c .before .before .before .before .before .before .before .piece04 .result) (c .before .before .before .before .before .before .piece13 .result) (c .before .before .before .before .before .piece14 .result) (c .before .before .before .before .piece23 .result) (c .before .before .before .piece24 .result) (c .before .before .piece33 .result) (c .before .piece34 .result) (c .column-alone2 .ensures) (c .before .before .before .before .before .before .before .before .piece03 .ensures) (c .before .before .before .before .before .before .before .piece04 .ensures) (c .before .before .before .before .before .before .piece13 .ensures) (c .before .before .before .before .before .piece14 .ensures) (c .before .before .before .before .piece23 .ensures) (c .before .before .before .piece24 .ensures) (c .before .before .piece33 .ensures) (c .before .piece34 .ensures))
 

@@ -8,27 +8,21 @@ use Rattle.seal_alone2.proofs.put2.Reads as reads
 use Rattle.seal_alone2.proofs.put2.Lts as lts
 use Rattle.words.proofs.put_word.Reads as put-word-reads
 
--- src/lib.rt:111:27
 array-read-put-word : tie.Need-array-read-put-word
 array-read-put-word c = search needs
 
--- src/lib.rt:111:5
 put-word-requires : tie.Need-put-word-requires
 put-word-requires c κs = search needs
 
--- src/lib.rt:112:27
 array-read-put-word-2 : tie.Need-array-read-put-word-2
 array-read-put-word-2 c = search needs
 
--- src/lib.rt:112:5
 put-word-requires-2 : tie.Need-put-word-requires-2
 put-word-requires-2 c κs = search needs
 
--- src/lib.rt:107:1
 same-length : tie.Need-same-length
 same-length c = search needs
 
--- src/lib.rt:107:1
 returns : tie.Need-returns
 unfolding putWords
 returns c = (c .before .before .put-word2 .ensures ∙ ap (λ l. putWord l 1 (getD (c .before .before .before .before .before .before .before .before .before .args .t2) 1 0)) (c .before .before .before .before .before .before .put-word .ensures))

@@ -20,47 +20,36 @@ Inv-loop tab s t ks x₀ at₀ m₀ x at m = (1 ≤ m) × (m ≤ t + 1) × (at �
 abbrev μ-loop : tie.MeasureT-loop
 μ-loop tab s t ks x₀ at₀ m₀ x at m = t + 1 - m
 
--- src/lib.rt:120:9
 first2-requires : tie.Need-first2-requires Inv-loop μ-loop
 first2-requires c κs = (c .before .before .before .pre .2, omega (arith, c .before .before .before .pre .3))
 
--- src/lib.rt:123:5
 loop-holds : tie.Need-loop-holds Inv-loop μ-loop
 loop-holds c = (omega arith, omega (arith, c .before .before .before .before .pre .1), refl, reached-first 2 (c .before .before .before .before .args .t) (now (c .before .before .before .before .args .ks)) (blockAt 2 (now (c .before .before .before .before .args .s)) 0) (c .first2 .result) (c .before .before .before .before .pre .1) (c .first2 .ensures))
 
--- src/lib.rt:124:20
 mixed2-requires : tie.Need-mixed2-requires Inv-loop μ-loop
 mixed2-requires c κs = search needs
 
--- src/lib.rt:124:9
 keyed2-requires : tie.Need-keyed2-requires Inv-loop μ-loop
 keyed2-requires c κs = omega (arith, c .before .before .loop .inv .2, c .before .before .before .before .before .before .before .pre .3)
 
--- src/lib.rt:125:9
 add-at : tie.Need-add-at Inv-loop μ-loop
 add-at c = omega (arith, c .before .before .before .loop .inv .2, c .before .before .before .before .before .before .before .before .pre .3, c .before .before .before .before .before .before .before .before .good)
 
--- src/lib.rt:126:9
 add-m : tie.Need-add-m Inv-loop μ-loop
 add-m c = search needs
 
--- src/lib.rt:123:5
 loop-less : tie.Need-loop-less Inv-loop μ-loop
 loop-less c = search needs
 
--- src/lib.rt:123:5
 loop-again : tie.Need-loop-again Inv-loop μ-loop
 loop-again c = (omega arith, omega arith, omega (arith, c .before .before .before .loop .inv .2), reached-next 2 (c .before .before .before .before .before .before .before .before .args .t) (c .before .before .before .loop .m) (c .before .before .before .loop .at) (now (c .before .before .before .before .before .before .before .before .args .tab)) (now (c .before .before .before .before .before .before .before .before .args .ks)) (blockAt 2 (now (c .before .before .before .before .before .before .before .before .args .s)) 0) (c .before .before .before .loop .x) (c .before .mixed2 .result) (c .keyed2 .result) (c .before .before .before .before .before .before .before .before .pre .0) (c .before .before .before .loop .inv .0) (omega arith) (c .before .before .before .loop .inv .2) (c .before .before .before .loop .inv .3) (c .before .mixed2 .ensures) (c .keyed2 .ensures))
 
--- src/lib.rt:128:5
 put2-requires : tie.Need-put2-requires Inv-loop μ-loop
 put2-requires c κs = c .before .before .before .before .before .before .before .pre .2
 
--- src/lib.rt:116:1
 same-length : tie.Need-same-length Inv-loop μ-loop
 same-length c = search needs
 
--- src/lib.rt:116:1
 returns : tie.Need-returns Inv-loop μ-loop
 returns c = put-back 2 (c .before .before .before .before .before .before .before .before .before .before .args .t) (now (c .before .before .before .before .before .before .before .before .before .before .args .ks)) (now (c .before .before .before .before .before .before .before .before .before .before .args .s)) (c .before .before .put2 .last .0) (c .before .before .before .before .before .loop .x) (c .before .before .before .before .before .before .before .before .before .before .pre .2) (c .before .before .put2 .ensures) (c .before .before .before .before .before .loop .inv .3 .done (omega arith))
 

@@ -8,71 +8,54 @@ use Rattle.seal_alone4.proofs.first4.Lts as lts
 use Rattle.column_words.proofs.added.Reads as added-reads
 use Rattle.words.proofs.word_at.Reads as word-at-reads
 
--- src/lib.rt:139:18
 word-at-requires : tie.Need-word-at-requires
 word-at-requires c κs = search needs
 
--- src/lib.rt:139:40
 shared-slice-read-added : tie.Need-shared-slice-read-added
 shared-slice-read-added c = search needs
 
--- src/lib.rt:139:12
 added-requires : tie.Need-added-requires
 added-requires c κs = search needs
 
--- src/lib.rt:139:5
 array-write-o : tie.Need-array-write-o
 array-write-o c = search needs
 
--- src/lib.rt:140:18
 word-at-requires-2 : tie.Need-word-at-requires-2
 word-at-requires-2 c κs = search needs
 
--- src/lib.rt:140:40
 shared-slice-read-added-2 : tie.Need-shared-slice-read-added-2
 shared-slice-read-added-2 c = search needs
 
--- src/lib.rt:140:12
 added-requires-2 : tie.Need-added-requires-2
 added-requires-2 c κs = search needs
 
--- src/lib.rt:140:5
 array-write-o-2 : tie.Need-array-write-o-2
 array-write-o-2 c = search needs
 
--- src/lib.rt:141:18
 word-at-requires-3 : tie.Need-word-at-requires-3
 word-at-requires-3 c κs = search needs
 
--- src/lib.rt:141:40
 shared-slice-read-added-3 : tie.Need-shared-slice-read-added-3
 shared-slice-read-added-3 c = search needs
 
--- src/lib.rt:141:12
 added-requires-3 : tie.Need-added-requires-3
 added-requires-3 c κs = search needs
 
--- src/lib.rt:141:5
 array-write-o-3 : tie.Need-array-write-o-3
 array-write-o-3 c = search needs
 
--- src/lib.rt:142:18
 word-at-requires-4 : tie.Need-word-at-requires-4
 word-at-requires-4 c κs = search needs
 
--- src/lib.rt:142:40
 shared-slice-read-added-4 : tie.Need-shared-slice-read-added-4
 shared-slice-read-added-4 c = search needs
 
--- src/lib.rt:142:12
 added-requires-4 : tie.Need-added-requires-4
 added-requires-4 c κs = search needs
 
--- src/lib.rt:142:5
 array-write-o-4 : tie.Need-array-write-o-4
 array-write-o-4 c = search needs
 
--- src/lib.rt:134:1
 returns : tie.Need-returns
 returns c = first-4 (now (c .before .before .before .before .before .before .before .before .before .before .before .before .before .before .args .s)) (now (c .before .before .before .before .before .before .before .before .before .before .before .before .before .before .args .ks)) (c .before .before .before .before .before .before .before .before .before .before .before .word-at .result) (c .before .before .before .before .before .before .before .before .word-at2 .result) (c .before .before .before .before .before .word-at3 .result) (c .before .before .word-at4 .result) (c .before .before .before .before .before .before .before .before .before .added .result) (c .before .before .before .before .before .before .added2 .result) (c .before .before .before .added3 .result) (c .added4 .result) (c .before .before .before .before .before .before .before .before .before .before .before .word-at .ensures) (c .before .before .before .before .before .before .before .before .word-at2 .ensures) (c .before .before .before .before .before .word-at3 .ensures) (c .before .before .word-at4 .ensures) (c .before .before .before .before .before .before .before .before .before .added .ensures) (c .before .before .before .before .before .before .added2 .ensures) (c .before .before .before .added3 .ensures) (c .added4 .ensures)
 

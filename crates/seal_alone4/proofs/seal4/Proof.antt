@@ -20,47 +20,36 @@ Inv-loop tab s t ks x₀ at₀ m₀ x at m = (1 ≤ m) × (m ≤ t + 1) × (at �
 abbrev μ-loop : tie.MeasureT-loop
 μ-loop tab s t ks x₀ at₀ m₀ x at m = t + 1 - m
 
--- src/lib.rt:238:9
 first4-requires : tie.Need-first4-requires Inv-loop μ-loop
 first4-requires c κs = (c .before .before .before .pre .2, omega (arith, c .before .before .before .pre .3))
 
--- src/lib.rt:241:5
 loop-holds : tie.Need-loop-holds Inv-loop μ-loop
 loop-holds c = (omega arith, omega (arith, c .before .before .before .before .pre .1), refl, reached-first 4 (c .before .before .before .before .args .t) (now (c .before .before .before .before .args .ks)) (blockAt 4 (now (c .before .before .before .before .args .s)) 0) (c .first4 .result) (c .before .before .before .before .pre .1) (c .first4 .ensures))
 
--- src/lib.rt:242:20
 mixed4-requires : tie.Need-mixed4-requires Inv-loop μ-loop
 mixed4-requires c κs = search needs
 
--- src/lib.rt:242:9
 keyed4-requires : tie.Need-keyed4-requires Inv-loop μ-loop
 keyed4-requires c κs = omega (arith, c .before .before .loop .inv .2, c .before .before .before .before .before .before .before .pre .3)
 
--- src/lib.rt:243:9
 add-at : tie.Need-add-at Inv-loop μ-loop
 add-at c = omega (arith, c .before .before .before .loop .inv .2, c .before .before .before .before .before .before .before .before .pre .3, c .before .before .before .before .before .before .before .before .good)
 
--- src/lib.rt:244:9
 add-m : tie.Need-add-m Inv-loop μ-loop
 add-m c = search needs
 
--- src/lib.rt:241:5
 loop-less : tie.Need-loop-less Inv-loop μ-loop
 loop-less c = search needs
 
--- src/lib.rt:241:5
 loop-again : tie.Need-loop-again Inv-loop μ-loop
 loop-again c = (omega arith, omega arith, omega (arith, c .before .before .before .loop .inv .2), reached-next 4 (c .before .before .before .before .before .before .before .before .args .t) (c .before .before .before .loop .m) (c .before .before .before .loop .at) (now (c .before .before .before .before .before .before .before .before .args .tab)) (now (c .before .before .before .before .before .before .before .before .args .ks)) (blockAt 4 (now (c .before .before .before .before .before .before .before .before .args .s)) 0) (c .before .before .before .loop .x) (c .before .mixed4 .result) (c .keyed4 .result) (c .before .before .before .before .before .before .before .before .pre .0) (c .before .before .before .loop .inv .0) (omega arith) (c .before .before .before .loop .inv .2) (c .before .before .before .loop .inv .3) (c .before .mixed4 .ensures) (c .keyed4 .ensures))
 
--- src/lib.rt:246:5
 put4-requires : tie.Need-put4-requires Inv-loop μ-loop
 put4-requires c κs = c .before .before .before .before .before .before .before .pre .2
 
--- src/lib.rt:234:1
 same-length : tie.Need-same-length Inv-loop μ-loop
 same-length c = search needs
 
--- src/lib.rt:234:1
 returns : tie.Need-returns Inv-loop μ-loop
 returns c = put-back 4 (c .before .before .before .before .before .before .before .before .before .before .args .t) (now (c .before .before .before .before .before .before .before .before .before .before .args .ks)) (now (c .before .before .before .before .before .before .before .before .before .before .args .s)) (c .before .before .put4 .last .0) (c .before .before .before .before .before .loop .x) (c .before .before .before .before .before .before .before .before .before .before .pre .2) (c .before .before .put4 .ensures) (c .before .before .before .before .before .loop .inv .3 .done (omega arith))
 

@@ -11,23 +11,18 @@ use Rattle.blocks.proofs.add_keys.Reads as add-keys-reads
 use Rattle.blocks.proofs.Widths.{width-le}
 use Rattle.seal_block.proofs.round.Reads as round-reads
 
--- src/lib.rt:48:25
 slice-aggregate-round : tie.Need-slice-aggregate-round
 slice-aggregate-round c = search needs
 
--- src/lib.rt:48:5
 round-requires : tie.Need-round-requires
 round-requires c κs = (c .before .before .before .before .pre .0, c .before .before .before .before .pre .1, c .before .before .before .before .pre .2, omega (arith, width-le (c .before .before .before .before .args .c) (c .before .before .before .before .pre .1)))
 
--- src/lib.rt:49:5
 add-keys-requires : tie.Need-add-keys-requires
 add-keys-requires c κs = (omega (arith, c .before .before .before .before .before .before .before .before .pre .2, c .before .before .before .round .kept .1 .0), c .before .before .before .before .before .before .before .before .pre .3)
 
--- src/lib.rt:43:1
 same-length : tie.Need-same-length
 same-length c = search needs
 
--- src/lib.rt:43:1
 returns : tie.Need-returns
 returns c = last-is (c .before .before .before .before .before .before .before .before .before .before .before .args .c) (c .before .before .before .before .before .before .before .before .before .before .before .args .n) (keyAt (c .before .before .before .before .before .before .before .before .before .before .before .args .c) (now (c .before .before .before .before .before .before .before .before .before .before .before .args .ks)) (c .before .before .before .before .before .before .before .before .before .before .before .args .at)) (now (c .before .before .before .before .before .before .before .before .before .before .before .args .s)) (c .before .before .before .before .before .before .round .last .1 .0) (c .before .before .add-keys .last .0) (width-le (c .before .before .before .before .before .before .before .before .before .before .before .args .c) (c .before .before .before .before .before .before .before .before .before .before .before .pre .1)) (c .before .before .before .before .before .before .round .ensures) (c .before .before .add-keys .ensures)
 

@@ -20,39 +20,30 @@ Inv-loop tab s₀ n t ks m₀ at₀ s m at = (m + 1 ≤ t) × (at ≡ 4 * (m + 1
 abbrev μ-loop : tie.MeasureT-loop
 μ-loop tab s₀ n t ks m₀ at₀ s m at = t - m
 
--- src/lib.rt:49:5
 loop-holds : tie.Need-loop-holds Inv-loop μ-loop
 loop-holds c = (omega arith, refl, rounds-none 4 (c .before .before .args .n) (keysOf 4 (now (c .before .before .args .ks))) (now (c .before .before .args .s)))
 
--- src/lib.rt:49:11
 add-loop : tie.Need-add-loop Inv-loop μ-loop
 add-loop c = search needs
 
--- src/lib.rt:50:9
 walk4-requires : tie.Need-walk4-requires Inv-loop μ-loop
 walk4-requires c κs = (omega (arith, c .before .before .before .before .before .pre .2, c .before .before .loop .inv .2 .long), omega (arith, c .before .before .loop .inv .1, key-room 4 (c .before .before .loop .m + 1) (c .before .before .before .before .before .args .t) (length (now (c .before .before .before .before .before .args .ks))) (omega arith) (c .before .before .before .before .before .pre .3)))
 
--- src/lib.rt:51:9
 add-at : tie.Need-add-at Inv-loop μ-loop
 add-at c = omega (arith, c .before .before .before .before .before .before .before .before .good, c .before .before .before .before .before .loop .inv .1, key-room 4 (c .before .before .before .before .before .loop .m + 1) (c .before .before .before .before .before .before .before .before .args .t) (length (now (c .before .before .before .before .before .before .before .before .args .ks))) (omega arith) (c .before .before .before .before .before .before .before .before .pre .3))
 
--- src/lib.rt:52:9
 add-m : tie.Need-add-m Inv-loop μ-loop
 add-m c = search needs
 
--- src/lib.rt:49:5
 loop-less : tie.Need-loop-less Inv-loop μ-loop
 loop-less c = search needs
 
--- src/lib.rt:49:5
 loop-again : tie.Need-loop-again Inv-loop μ-loop
 loop-again c = (omega arith, next-key 4 (c .before .before .before .before .before .loop .m) (c .before .before .before .before .before .loop .at) (c .before .before .before .before .before .loop .inv .1), rounds-more 4 (c .before .before .before .before .before .before .before .before .args .n) (c .before .before .before .before .before .loop .m) (now (c .before .before .before .before .before .before .before .before .args .ks)) (now (c .before .before .before .before .before .before .before .before .args .s)) (c .before .before .before .before .before .loop .s) (c .before .before .walk4 .last .1 .0) (c .before .before .before .before .before .loop .at) (c .before .before .before .before .before .loop .inv .1) (c .before .before .before .before .before .loop .inv .2) (round-at 4 4 (c .before .before .before .before .before .before .before .before .args .n) (now (c .before .before .before .before .before .before .before .before .args .tab)) (now (c .before .before .before .before .before .before .before .before .args .ks)) (c .before .before .before .before .before .loop .s) (c .before .before .walk4 .last .1 .0) (c .before .before .before .before .before .loop .at) refl (c .before .before .before .before .before .before .before .before .pre .0) (c .before .before .walk4 .ensures)))
 
--- src/lib.rt:43:1
 same-length : tie.Need-same-length Inv-loop μ-loop
 same-length c = c .before .loop .inv .2 .long
 
--- src/lib.rt:43:1
 returns : tie.Need-returns Inv-loop μ-loop
 returns c = subst (λ m. Walked 4 (c .before .before .before .before .args .n) (λ x. rounds 4 (keysOf 4 (now (c .before .before .before .before .args .ks))) x m) (now (c .before .before .before .before .args .s)) (c .before .loop .s)) (omega arith) (c .before .loop .inv .2)
 

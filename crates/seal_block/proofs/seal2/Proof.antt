@@ -16,39 +16,30 @@ use Rattle.seal_alone2.proofs.seal2.Reads as seal2-reads
 use Rattle.seal_block.proofs.last_round.Reads as last-round-reads
 use Rattle.seal_block.proofs.rounds2.Reads as rounds2-reads
 
--- src/lib.rt:86:9
 seal2-requires : tie.Need-seal2-requires
 seal2-requires c κs = (c .before .before .before .before .pre .0, c .before .before .before .before .pre .1, omega (arith, c .before .before .before .before .pre .2, c .before .if1 .taken), c .before .before .before .before .pre .3)
 
--- src/lib.rt:87:9
 same-length : tie.Need-same-length
 same-length c = search needs
 
--- src/lib.rt:87:9
 returns : tie.Need-returns
 returns c = subst (λ k. Walked 2 k (seal 2 (c .before .before .before .before .before .before .before .args .t) (keysOf 2 (now (c .before .before .before .before .before .before .before .args .ks)))) (now (c .before .before .before .before .before .before .before .args .s)) (c .before .before .seal2 .last .1 .0)) (sym (c .before .before .before .before .if1 .taken)) (c .before .before .seal2 .ensures)
 
--- src/lib.rt:89:5
 add-keys-requires : tie.Need-add-keys-requires
 add-keys-requires c κs = search needs
 
--- src/lib.rt:90:5
 rounds2-requires : tie.Need-rounds2-requires
 rounds2-requires c κs = search needs
 
--- src/lib.rt:91:34
 mul-last-round : tie.Need-mul-last-round
 mul-last-round c = search needs
 
--- src/lib.rt:91:5
 last-round-requires : tie.Need-last-round-requires
 last-round-requires c κs = (c .before .before .before .before .before .before .before .before .before .before .before .before .pre .0, _⊎_.inl refl, omega (arith, c .before .before .before .before .before .before .before .before .before .before .before .before .pre .2, c .before .before .before .before .before .before .before .add-keys .ensures .long, c .before .before .before .rounds2 .ensures .long), omega (arith, c .before .before .before .before .before .before .before .before .before .before .before .before .pre .3))
 
--- src/lib.rt:81:1
 same-length-2 : tie.Need-same-length-2
 same-length-2 c = search needs
 
--- src/lib.rt:81:1
 returns-2 : tie.Need-returns-2
 returns-2 c = seal-is 2 (c .before .before .before .before .before .before .before .before .before .before .before .before .before .before .before .args .n) (c .before .before .before .before .before .before .before .before .before .before .before .before .before .before .before .args .t) (now (c .before .before .before .before .before .before .before .before .before .before .before .before .before .before .before .args .ks)) (now (c .before .before .before .before .before .before .before .before .before .before .before .before .before .before .before .args .s)) (c .before .before .before .before .before .before .before .before .before .before .add-keys .last .0) (c .before .before .before .before .before .before .rounds2 .last .1 .0) (c .before .before .last-round .last .1 .0) (c .before .before .before .before .before .before .before .before .before .before .add-keys .ensures) (c .before .before .before .before .before .before .rounds2 .ensures) (c .before .before .last-round .ensures)
 

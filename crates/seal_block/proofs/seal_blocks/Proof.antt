@@ -11,39 +11,30 @@ use Rattle.seal_block.proofs.seal2.Reads as seal2-reads
 use Rattle.seal_block.proofs.seal4.Reads as seal4-reads
 use Rattle.seal_block.proofs.seal8.Reads as seal8-reads
 
--- src/lib.rt:116:9
 seal2-requires : tie.Need-seal2-requires
 seal2-requires c κs = (c .before .before .before .before .pre .0, c .before .before .before .before .pre .2, room-at (c .before .before .before .before .args .c) 2 (c .before .before .before .before .args .n) (c .before .before .before .before .args .t) (length (now (c .before .before .before .before .args .s))) (length (now (c .before .before .before .before .args .ks))) (c .before .if1 .taken) (c .before .before .before .before .pre .3) (c .before .before .before .before .pre .4) .0, room-at (c .before .before .before .before .args .c) 2 (c .before .before .before .before .args .n) (c .before .before .before .before .args .t) (length (now (c .before .before .before .before .args .s))) (length (now (c .before .before .before .before .args .ks))) (c .before .if1 .taken) (c .before .before .before .before .pre .3) (c .before .before .before .before .pre .4) .1, c .before .before .before .before .pre .5)
 
--- src/lib.rt:117:9
 same-length : tie.Need-same-length
 same-length c = search needs
 
--- src/lib.rt:117:9
 returns : tie.Need-returns
 returns c = seal-at (c .before .before .before .before .before .before .before .args .c) 2 (c .before .before .before .before .before .before .before .args .n) (c .before .before .before .before .before .before .before .args .t) (now (c .before .before .before .before .before .before .before .args .ks)) (now (c .before .before .before .before .before .before .before .args .s)) (c .before .before .seal2 .last .1 .0) (c .before .before .before .before .if1 .taken) (c .before .before .seal2 .ensures)
 
--- src/lib.rt:120:9
 seal4-requires : tie.Need-seal4-requires
 seal4-requires c κs = (c .before .before .before .before .before .pre .0, c .before .before .before .before .before .pre .2, room-at (c .before .before .before .before .before .args .c) 4 (c .before .before .before .before .before .args .n) (c .before .before .before .before .before .args .t) (length (now (c .before .before .before .before .before .args .s))) (length (now (c .before .before .before .before .before .args .ks))) (c .before .if2 .taken) (c .before .before .before .before .before .pre .3) (c .before .before .before .before .before .pre .4) .0, room-at (c .before .before .before .before .before .args .c) 4 (c .before .before .before .before .before .args .n) (c .before .before .before .before .before .args .t) (length (now (c .before .before .before .before .before .args .s))) (length (now (c .before .before .before .before .before .args .ks))) (c .before .if2 .taken) (c .before .before .before .before .before .pre .3) (c .before .before .before .before .before .pre .4) .1, c .before .before .before .before .before .pre .5)
 
--- src/lib.rt:121:9
 same-length-2 : tie.Need-same-length-2
 same-length-2 c = search needs
 
--- src/lib.rt:121:9
 returns-2 : tie.Need-returns-2
 returns-2 c = seal-at (c .before .before .before .before .before .before .before .before .args .c) 4 (c .before .before .before .before .before .before .before .before .args .n) (c .before .before .before .before .before .before .before .before .args .t) (now (c .before .before .before .before .before .before .before .before .args .ks)) (now (c .before .before .before .before .before .before .before .before .args .s)) (c .before .before .seal4 .last .1 .0) (c .before .before .before .before .if2 .taken) (c .before .before .seal4 .ensures)
 
--- src/lib.rt:123:5
 seal8-requires : tie.Need-seal8-requires
 seal8-requires c κs = (c .before .before .before .before .before .pre .0, c .before .before .before .before .before .pre .2, room-at (c .before .before .before .before .before .args .c) 8 (c .before .before .before .before .before .args .n) (c .before .before .before .before .before .args .t) (length (now (c .before .before .before .before .before .args .s))) (length (now (c .before .before .before .before .before .args .ks))) (eight-is (c .before .before .before .before .before .args .c) (c .before .before .before .before .before .pre .1) (c .before .before .if1 .left) (c .before .if2 .left)) (c .before .before .before .before .before .pre .3) (c .before .before .before .before .before .pre .4) .0, room-at (c .before .before .before .before .before .args .c) 8 (c .before .before .before .before .before .args .n) (c .before .before .before .before .before .args .t) (length (now (c .before .before .before .before .before .args .s))) (length (now (c .before .before .before .before .before .args .ks))) (eight-is (c .before .before .before .before .before .args .c) (c .before .before .before .before .before .pre .1) (c .before .before .if1 .left) (c .before .if2 .left)) (c .before .before .before .before .before .pre .3) (c .before .before .before .before .before .pre .4) .1, c .before .before .before .before .before .pre .5)
 
--- src/lib.rt:111:1
 same-length-3 : tie.Need-same-length-3
 same-length-3 c = search needs
 
--- src/lib.rt:111:1
 returns-3 : tie.Need-returns-3
 returns-3 c = seal-at (c .before .before .before .before .before .before .before .before .args .c) 8 (c .before .before .before .before .before .before .before .before .args .n) (c .before .before .before .before .before .before .before .before .args .t) (now (c .before .before .before .before .before .before .before .before .args .ks)) (now (c .before .before .before .before .before .before .before .before .args .s)) (c .before .before .seal8 .last .1 .0) (eight-is (c .before .before .before .before .before .before .before .before .args .c) (c .before .before .before .before .before .before .before .before .pre .1) (c .before .before .before .before .before .if1 .left) (c .before .before .before .before .if2 .left)) (c .before .before .seal8 .ensures)
 

@@ -13,119 +13,90 @@ use Rattle.seal_rounds.proofs.mix2.Reads as reads
 use Rattle.seal_rounds.proofs.mix2.Lts as lts
 use Rattle.columns.proofs.column.Reads as column-reads
 
--- src/lib.rt:12:14
 mul-at : tie.Need-mul-at
 mul-at c = omega (arith, c .before .pre, c .before .good)
 
--- src/lib.rt:13:14
 mul-p0 : tie.Need-mul-p0
 mul-p0 c = omega (arith, c .before .pre, c .before .good)
 
--- src/lib.rt:13:14
 shared-slice-read-p0 : tie.Need-shared-slice-read-p0
 shared-slice-read-p0 c = omega (arith, c .before .before .pre)
 
--- src/lib.rt:14:16
 add-p4 : tie.Need-add-p4
 add-p4 c = omega (arith, c .before .before .pre, c .before .before .good)
 
--- src/lib.rt:14:14
 mul-p4 : tie.Need-mul-p4
 mul-p4 c = omega (arith, c .before .before .pre, c .before .before .good)
 
--- src/lib.rt:14:14
 shared-slice-read-p4 : tie.Need-shared-slice-read-p4
 shared-slice-read-p4 c = omega (arith, c .before .before .before .pre)
 
--- src/lib.rt:15:16
 add-p1 : tie.Need-add-p1
 add-p1 c = omega (arith, c .before .before .before .pre, c .before .before .before .good)
 
--- src/lib.rt:15:14
 mul-p1 : tie.Need-mul-p1
 mul-p1 c = omega (arith, c .before .before .before .pre, c .before .before .before .good)
 
--- src/lib.rt:15:14
 shared-slice-read-p1 : tie.Need-shared-slice-read-p1
 shared-slice-read-p1 c = omega (arith, c .before .before .before .before .pre)
 
--- src/lib.rt:16:16
 add-p5 : tie.Need-add-p5
 add-p5 c = omega (arith, c .before .before .before .before .pre, c .before .before .before .before .good)
 
--- src/lib.rt:16:14
 mul-p5 : tie.Need-mul-p5
 mul-p5 c = omega (arith, c .before .before .before .before .pre, c .before .before .before .before .good)
 
--- src/lib.rt:16:14
 shared-slice-read-p5 : tie.Need-shared-slice-read-p5
 shared-slice-read-p5 c = omega (arith, c .before .before .before .before .before .pre)
 
--- src/lib.rt:17:16
 add-p2 : tie.Need-add-p2
 add-p2 c = omega (arith, c .before .before .before .before .before .pre, c .before .before .before .before .before .good)
 
--- src/lib.rt:17:14
 mul-p2 : tie.Need-mul-p2
 mul-p2 c = omega (arith, c .before .before .before .before .before .pre, c .before .before .before .before .before .good)
 
--- src/lib.rt:17:14
 shared-slice-read-p2 : tie.Need-shared-slice-read-p2
 shared-slice-read-p2 c = omega (arith, c .before .before .before .before .before .before .pre)
 
--- src/lib.rt:18:16
 add-p6 : tie.Need-add-p6
 add-p6 c = omega (arith, c .before .before .before .before .before .before .pre, c .before .before .before .before .before .before .good)
 
--- src/lib.rt:18:14
 mul-p6 : tie.Need-mul-p6
 mul-p6 c = omega (arith, c .before .before .before .before .before .before .pre, c .before .before .before .before .before .before .good)
 
--- src/lib.rt:18:14
 shared-slice-read-p6 : tie.Need-shared-slice-read-p6
 shared-slice-read-p6 c = omega (arith, c .before .before .before .before .before .before .before .pre)
 
--- src/lib.rt:19:16
 add-p3 : tie.Need-add-p3
 add-p3 c = omega (arith, c .before .before .before .before .before .before .before .pre, c .before .before .before .before .before .before .before .good)
 
--- src/lib.rt:19:14
 mul-p3 : tie.Need-mul-p3
 mul-p3 c = omega (arith, c .before .before .before .before .before .before .before .pre, c .before .before .before .before .before .before .before .good)
 
--- src/lib.rt:19:14
 shared-slice-read-p3 : tie.Need-shared-slice-read-p3
 shared-slice-read-p3 c = omega (arith, c .before .before .before .before .before .before .before .before .pre)
 
--- src/lib.rt:20:16
 add-p7 : tie.Need-add-p7
 add-p7 c = omega (arith, c .before .before .before .before .before .before .before .before .pre, c .before .before .before .before .before .before .before .before .good)
 
--- src/lib.rt:20:14
 mul-p7 : tie.Need-mul-p7
 mul-p7 c = omega (arith, c .before .before .before .before .before .before .before .before .pre, c .before .before .before .before .before .before .before .before .good)
 
--- src/lib.rt:20:14
 shared-slice-read-p7 : tie.Need-shared-slice-read-p7
 shared-slice-read-p7 c = omega (arith, c .before .before .before .before .before .before .before .before .before .pre)
 
--- src/lib.rt:22:12
 column-requires : tie.Need-column-requires
 column-requires c κs = search needs
 
--- src/lib.rt:22:5
 array-write-o : tie.Need-array-write-o
 array-write-o c = search needs
 
--- src/lib.rt:23:12
 column-requires-2 : tie.Need-column-requires-2
 column-requires-2 c κs = search needs
 
--- src/lib.rt:23:5
 array-write-o-2 : tie.Need-array-write-o-2
 array-write-o-2 c = search needs
 
--- src/lib.rt:8:1
 returns : tie.Need-returns
 returns c = let s = now (c .before .before .before .before .before .before .before .before .before .before .before .args .s) in
     let h : Pieces s = λ i. omega (arith, c .before .before .before .before .before .before .before .before .before .before .shared-slice-known .given i) in

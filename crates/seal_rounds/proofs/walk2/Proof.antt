@@ -23,27 +23,21 @@ Inv-loop t s₀ n ks at i₀ s i = (i ≤ n) × Walked 2 i (roundOf t 2 (sealPla
 abbrev μ-loop : tie.MeasureT-loop
 μ-loop t s₀ n ks at i₀ s i = n - i
 
--- src/lib.rt:113:5
 loop-holds : tie.Need-loop-holds Inv-loop μ-loop
 loop-holds c = (omega arith, walk-none 2 (roundOf (now (c .before .before .args .t)) 2 (sealPlaces 2) (keyAt 2 (now (c .before .before .args .ks)) (c .before .before .args .at))) (now (c .before .before .args .s)))
 
--- src/lib.rt:114:13
 mix2-requires : tie.Need-mix2-requires Inv-loop μ-loop
 mix2-requires c κs = omega (arith, c .before .before .loop .inv .1 .long)
 
--- src/lib.rt:115:9
 keyed2-requires : tie.Need-keyed2-requires Inv-loop μ-loop
 keyed2-requires c κs = omega (arith, c .before .before .before .before .loop .inv .1 .long)
 
--- src/lib.rt:116:9
 add-i : tie.Need-add-i Inv-loop μ-loop
 add-i c = search needs
 
--- src/lib.rt:113:5
 loop-less : tie.Need-loop-less Inv-loop μ-loop
 loop-less c = search needs
 
--- src/lib.rt:113:5
 loop-again : tie.Need-loop-again Inv-loop μ-loop
 loop-again c = (
   omega arith,
@@ -51,11 +45,9 @@ loop-again c = (
       (c .before .before .before .before .before .before .before .loop .inv .1) (omega arith) (c .before .before .keyed2 .ensures) (λ k h. bound 64 _ _ (c .before .before .before .before .mix2 .ensures .fits k h) (omega (arith, c .before .before .before .before .before .before .before .before .shared-slice-known .given (c .before .before .before .before .before .before .before .before .before .before .args .at + k)))) (round-cols (now (c .before .before .before .before .before .before .before .before .before .before .args .t)) 2 (sealPlaces 2) (now (c .before .before .before .before .before .before .before .before .before .before .args .ks)) (c .before .before .before .before .mix2 .result) (blockAt 2 (c .before .before .before .before .before .before .before .loop .s) (c .before .before .before .before .before .before .before .loop .i)) (c .before .before .before .before .before .before .before .before .before .before .args .at) (c .before .before .before .before .mix2 .ensures .says)),
 )
 
--- src/lib.rt:108:1
 same-length : tie.Need-same-length Inv-loop μ-loop
 same-length c = c .before .loop .inv .1 .long
 
--- src/lib.rt:108:1
 returns : tie.Need-returns Inv-loop μ-loop
 returns c = subst (λ m. Walked 2 m (roundOf (now (c .before .before .before .before .args .t)) 2 (sealPlaces 2) (keyAt 2 (now (c .before .before .before .before .args .ks)) (c .before .before .before .before .args .at))) (now (c .before .before .before .before .args .s)) (c .before .loop .s)) (omega arith) (c .before .loop .inv .1)
 

@@ -23,27 +23,21 @@ Inv-loop t s₀ n ks at i₀ s i = (i ≤ n) × Walked 4 i (roundOf t 4 (sealPla
 abbrev μ-loop : tie.MeasureT-loop
 μ-loop t s₀ n ks at i₀ s i = n - i
 
--- src/lib.rt:126:5
 loop-holds : tie.Need-loop-holds Inv-loop μ-loop
 loop-holds c = (omega arith, walk-none 4 (roundOf (now (c .before .before .args .t)) 4 (sealPlaces 4) (keyAt 4 (now (c .before .before .args .ks)) (c .before .before .args .at))) (now (c .before .before .args .s)))
 
--- src/lib.rt:127:13
 mix4-requires : tie.Need-mix4-requires Inv-loop μ-loop
 mix4-requires c κs = omega (arith, c .before .before .loop .inv .1 .long)
 
--- src/lib.rt:128:9
 keyed4-requires : tie.Need-keyed4-requires Inv-loop μ-loop
 keyed4-requires c κs = omega (arith, c .before .before .before .before .loop .inv .1 .long)
 
--- src/lib.rt:129:9
 add-i : tie.Need-add-i Inv-loop μ-loop
 add-i c = search needs
 
--- src/lib.rt:126:5
 loop-less : tie.Need-loop-less Inv-loop μ-loop
 loop-less c = search needs
 
--- src/lib.rt:126:5
 loop-again : tie.Need-loop-again Inv-loop μ-loop
 loop-again c = (
   omega arith,
@@ -51,11 +45,9 @@ loop-again c = (
       (c .before .before .before .before .before .before .before .loop .inv .1) (omega arith) (c .before .before .keyed4 .ensures) (λ k h. bound 64 _ _ (c .before .before .before .before .mix4 .ensures .fits k h) (omega (arith, c .before .before .before .before .before .before .before .before .shared-slice-known .given (c .before .before .before .before .before .before .before .before .before .before .args .at + k)))) (round-cols (now (c .before .before .before .before .before .before .before .before .before .before .args .t)) 4 (sealPlaces 4) (now (c .before .before .before .before .before .before .before .before .before .before .args .ks)) (c .before .before .before .before .mix4 .result) (blockAt 4 (c .before .before .before .before .before .before .before .loop .s) (c .before .before .before .before .before .before .before .loop .i)) (c .before .before .before .before .before .before .before .before .before .before .args .at) (c .before .before .before .before .mix4 .ensures .says)),
 )
 
--- src/lib.rt:121:1
 same-length : tie.Need-same-length Inv-loop μ-loop
 same-length c = c .before .loop .inv .1 .long
 
--- src/lib.rt:121:1
 returns : tie.Need-returns Inv-loop μ-loop
 returns c = subst (λ m. Walked 4 m (roundOf (now (c .before .before .before .before .args .t)) 4 (sealPlaces 4) (keyAt 4 (now (c .before .before .before .before .args .ks)) (c .before .before .before .before .args .at))) (now (c .before .before .before .before .args .s)) (c .before .loop .s)) (omega arith) (c .before .loop .inv .1)
 

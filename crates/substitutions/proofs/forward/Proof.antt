@@ -11,39 +11,30 @@ use Rattle.substitutions.proofs.forward.Reads as reads
 use Rattle.substitutions.proofs.forward.Lts as lts
 use Rattle.substitutions.proofs.lay.Reads as lay-reads
 
--- src/lib.rt:178:9
 slice-aggregate-lay : tie.Need-slice-aggregate-lay
 slice-aggregate-lay c = search needs
 
--- src/lib.rt:178:5
 lay-requires : tie.Need-lay-requires
 lay-requires c κs = search needs
 
--- src/lib.rt:179:9
 slice-aggregate-lay-2 : tie.Need-slice-aggregate-lay-2
 slice-aggregate-lay-2 c = search needs
 
--- src/lib.rt:179:5
 lay-requires-2 : tie.Need-lay-requires-2
 lay-requires-2 c κs = search needs
 
--- src/lib.rt:180:9
 slice-aggregate-lay-3 : tie.Need-slice-aggregate-lay-3
 slice-aggregate-lay-3 c = search needs
 
--- src/lib.rt:180:5
 lay-requires-3 : tie.Need-lay-requires-3
 lay-requires-3 c κs = search needs
 
--- src/lib.rt:181:9
 slice-aggregate-lay-4 : tie.Need-slice-aggregate-lay-4
 slice-aggregate-lay-4 c = search needs
 
--- src/lib.rt:181:5
 lay-requires-4 : tie.Need-lay-requires-4
 lay-requires-4 c κs = search needs
 
--- src/lib.rt:174:1
 returns : tie.Need-returns
 unfolding pi0 pi1 pi2 pi3
 returns c = four (tab 256 (λ k. getD pi0 k 0)) (tab 256 (λ k. getD pi1 k 0)) (tab 256 (λ k. getD pi2 k 0)) (tab 256 (λ k. getD pi3 k 0)) (replicate 1024 0) (c .before .before .before .before .before .before .before .before .before .before .lay .last .0) (c .before .before .before .before .before .before .before .lay2 .last .0) (c .before .before .before .before .lay3 .last .0) (c .before .lay4 .last .0)

@@ -17,39 +17,30 @@ Inv-loop t₀ at p i₀ t i = (i ≤ 256) × Run (λ k. getD p k 0) at t₀ i t
 abbrev μ-loop : tie.MeasureT-loop
 μ-loop t₀ at p i₀ t i = 256 - i
 
--- src/lib.rt:167:5
 loop-holds : tie.Need-loop-holds Inv-loop μ-loop
 loop-holds c = (omega arith, run-none (λ k. getD (c .args .t3) k 0) (c .args .at) (c .args .t .now))
 
--- src/lib.rt:168:21
 array-read-t : tie.Need-array-read-t Inv-loop μ-loop
 array-read-t c = search needs
 
--- src/lib.rt:168:11
 add-t : tie.Need-add-t Inv-loop μ-loop
 add-t c = search needs
 
--- src/lib.rt:168:9
 slice-write-t : tie.Need-slice-write-t Inv-loop μ-loop
 slice-write-t c = search needs
 
--- src/lib.rt:169:9
 add-i : tie.Need-add-i Inv-loop μ-loop
 add-i c = search needs
 
--- src/lib.rt:167:5
 loop-less : tie.Need-loop-less Inv-loop μ-loop
 loop-less c = search needs
 
--- src/lib.rt:167:5
 loop-again : tie.Need-loop-again Inv-loop μ-loop
 loop-again c = (omega arith, run-more (λ k. getD (c .before .before .args .t3) k 0) (c .before .before .args .at) (c .before .before .args .t .now) (c .before .loop .i) (c .before .loop .t) _ (c .before .loop .inv .1) (omega arith) refl)
 
--- src/lib.rt:162:1
 same-length : tie.Need-same-length Inv-loop μ-loop
 same-length c = c .before .loop .inv .1 .long
 
--- src/lib.rt:162:1
 returns : tie.Need-returns Inv-loop μ-loop
 returns c = run-whole (λ k. getD (c .before .before .args .t3) k 0) (c .before .before .args .at) (c .before .before .args .t .now) 256 (c .before .loop .t)
     (subst (λ n. Run (λ k. getD (c .before .before .args .t3) k 0) (c .before .before .args .at) (c .before .before .args .t .now) n (c .before .loop .t)) (omega arith) (c .before .loop .inv .1))

@@ -7,32 +7,26 @@ use Rattle.suites.proofs.suite_of.Tie as tie
 use Rattle.suites.proofs.suite_of.Reads as reads
 use Rattle.suites.proofs.suite_of.Lts as lts
 
--- src/lib.rt:33:1
 returns : tie.Need-returns
 unfolding suiteOf pick
 returns c = rw (c .match .keys1)
 
--- src/lib.rt:33:1
 returns-2 : tie.Need-returns-2
 unfolding suiteOf pick
 returns-2 c = rw (c .match .keys2)
 
--- src/lib.rt:33:1
 returns-3 : tie.Need-returns-3
 unfolding suiteOf pick
 returns-3 c = rw (c .match .keys3)
 
--- src/lib.rt:33:1
 returns-4 : tie.Need-returns-4
 unfolding suiteOf pick
 returns-4 c = rw (c .match .keys4)
 
--- src/lib.rt:33:1
 returns-5 : tie.Need-returns-5
 unfolding suiteOf pick
 returns-5 c = rw (c .match .keys5)
 
--- src/lib.rt:33:1
 returns-6 : tie.Need-returns-6
 unfolding suiteOf pick
 returns-6 c = simp (ne-eqb (c .before .args .n) 1 (c .match .rest .0 .0 .0 .0 .1), ne-eqb (c .before .args .n) 2 (c .match .rest .0 .0 .0 .1), ne-eqb (c .before .args .n) 3 (c .match .rest .0 .0 .1), ne-eqb (c .before .args .n) 4 (c .match .rest .0 .1), ne-eqb (c .before .args .n) 5 (c .match .rest .1))

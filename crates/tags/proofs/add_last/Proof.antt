@@ -16,35 +16,27 @@ use Rattle.tags.proofs.add_last.Lts as lts
 use Rattle.fills.proofs.add_filled.Reads as add-filled-reads
 use Rattle.one_block.proofs.add_in.Reads as add-in-reads
 
--- src/lib.rt:48:22
 mul-if1 : tie.Need-mul-if1
 mul-if1 c = search needs
 
--- src/lib.rt:48:8
 rem-if1 : tie.Need-rem-if1
 rem-if1 c = omega (arith, width-lt (c .before .before .args .c) (c .before .before .pre .0))
 
--- src/lib.rt:49:9
 add-in-requires : tie.Need-add-in-requires
 add-in-requires c κs = (c .before .before .before .before .pre .1, omega (arith, c .before .before .before .before .pre .3, last-whole (8 * c .before .before .before .before .args .c) (now (c .before .before .before .before .args .text)) (width-lt (c .before .before .before .before .args .c) (c .before .before .before .before .pre .0)) (c .before .before .before .before .pre .2) (c .before .if1 .taken), suc-mul ((length (now (c .before .before .before .before .args .text)) - 1) / (8 * c .before .before .before .before .args .c)) (8 * c .before .before .before .before .args .c)))
 
--- src/lib.rt:50:9
 same-length : tie.Need-same-length
 same-length c = search needs
 
--- src/lib.rt:50:9
 returns : tie.Need-returns
 returns c = c .before .before .add-in .ensures ∙ ap (xorBlock (8 * c .before .before .before .before .before .before .before .args .c) (held (c .before .before .before .before .before .before .before .args .c) (now (c .before .before .before .before .before .before .before .args .s)))) (ap (λ n. take (8 * c .before .before .before .before .before .before .before .args .c) (drop n (now (c .before .before .before .before .before .before .before .args .text)))) (c .before .before .before .before .before .before .before .pre .3) ∙ added-whole (8 * c .before .before .before .before .before .before .before .args .c) (now (c .before .before .before .before .before .before .before .args .text)) (width-lt (c .before .before .before .before .before .before .before .args .c) (c .before .before .before .before .before .before .before .pre .0)) (c .before .before .before .before .before .before .before .pre .2) (c .before .before .before .before .if1 .taken))
 
--- src/lib.rt:52:5
 add-filled-requires : tie.Need-add-filled-requires
 add-filled-requires c κs = (c .before .before .before .before .pre .0, c .before .before .before .before .pre .1, c .before .before .before .before .pre .3 ∙ ap (λ q. q * (8 * c .before .before .before .before .args .c)) (last-begun (8 * c .before .before .before .before .args .c) (now (c .before .before .before .before .args .text)) (width-lt (c .before .before .before .before .args .c) (c .before .before .before .before .pre .0)) (c .before .before .before .before .pre .2) (c .before .if1 .left)))
 
--- src/lib.rt:44:1
 same-length-2 : tie.Need-same-length-2
 same-length-2 c = search needs
 
--- src/lib.rt:44:1
 returns-2 : tie.Need-returns-2
 returns-2 c = c .before .before .add-filled .ensures ∙ ap (xorBlock (8 * c .before .before .before .before .before .before .before .args .c) (held (c .before .before .before .before .before .before .before .args .c) (now (c .before .before .before .before .before .before .before .args .s)))) (added-filled (8 * c .before .before .before .before .before .before .before .args .c) (now (c .before .before .before .before .before .before .before .args .text)) (width-lt (c .before .before .before .before .before .before .before .args .c) (c .before .before .before .before .before .before .before .pre .0)) (c .before .before .before .before .before .before .before .pre .2) (c .before .before .before .before .if1 .left))
 

@@ -15,31 +15,24 @@ use Rattle.tags.proofs.mask.Lts as lts
 use Rattle.one_block.proofs.give_out.Reads as give-out-reads
 use Rattle.one_block.proofs.seal_first.Reads as seal-first-reads
 
--- src/lib.rt:38:5
 array-write-s : tie.Need-array-write-s
 array-write-s c = search needs
 
--- src/lib.rt:39:32
 slice-aggregate-seal-first : tie.Need-slice-aggregate-seal-first
 slice-aggregate-seal-first c = search needs
 
--- src/lib.rt:39:5
 seal-first-requires : tie.Need-seal-first-requires
 seal-first-requires c κs = (c .before .before .before .pre .0, c .before .before .before .pre .1, c .before .before .before .pre .2, omega (arith, width-le (c .before .before .before .args .c) (c .before .before .before .pre .1)), c .before .before .before .pre .4, c .before .before .before .pre .3)
 
--- src/lib.rt:40:25
 slice-aggregate-give-out : tie.Need-slice-aggregate-give-out
 slice-aggregate-give-out c = search needs
 
--- src/lib.rt:40:5
 give-out-requires : tie.Need-give-out-requires
 give-out-requires c κs = (omega (arith, width-le (c .before .before .before .before .before .before .before .args .c) (c .before .before .before .before .before .before .before .pre .1), c .before .before .before .seal-first .kept .1 .0), omega (arith, c .before .before .before .before .before .before .before .pre .6))
 
--- src/lib.rt:33:1
 same-length : tie.Need-same-length
 same-length c = search needs
 
--- src/lib.rt:33:1
 returns : tie.Need-returns
 returns c = given (8 * c .before .before .before .before .before .before .before .before .before .before .args .c) _ _ (now (c .before .before .before .before .before .before .before .before .before .before .args .m)) _ (c .before .before .give-out .ensures) (c .before .before .before .before .before .before .seal-first .ensures ∙ ap (sealBytes (c .before .before .before .before .before .before .before .before .before .before .args .c) (c .before .before .before .before .before .before .before .before .before .before .args .t) (keysOf (c .before .before .before .before .before .before .before .before .before .before .args .c) (now (c .before .before .before .before .before .before .before .before .before .before .args .ks)))) (number-held (c .before .before .before .before .before .before .before .before .before .before .args .c) (c .before .before .before .before .before .before .before .before .before .before .args .x) (c .before .before .before .before .before .before .before .before .before .before .pre .1) (c .before .before .before .before .before .before .before .before .before .before .pre .5)))
 

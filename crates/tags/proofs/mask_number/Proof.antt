@@ -6,15 +6,12 @@ use Rattle.tags.proofs.mask_number.Tie as tie
 use Rattle.tags.proofs.mask_number.Reads as reads
 use Rattle.tags.proofs.mask_number.Lts as lts
 
--- src/lib.rt:26:8
 rem-if1 : tie.Need-rem-if1
 rem-if1 c = search needs
 
--- src/lib.rt:27:9
 returns : tie.Need-returns
 returns c = (mask-whole _ (c .if1 .taken), omega arith)
 
--- src/lib.rt:22:1
 returns-2 : tie.Need-returns-2
 returns-2 c = (mask-filled _ (c .if1 .left), omega arith)
 

@@ -19,47 +19,36 @@ Inv-loop tag right d₀ i₀ d i = (i ≤ length tag) × (d ≡ differ tag right
 abbrev μ-loop : tie.MeasureT-loop
 μ-loop tag right d₀ i₀ d i = length tag - i
 
--- src/lib.rt:79:5
 loop-holds : tie.Need-loop-holds Inv-loop μ-loop
 loop-holds c = (omega arith, differ-none (now (c .before .before .args .tag)) (now (c .before .before .args .right)), omega arith)
 
--- src/lib.rt:80:29
 shared-slice-read-x8 : tie.Need-shared-slice-read-x8 Inv-loop μ-loop
 shared-slice-read-x8 c = search needs
 
--- src/lib.rt:80:37
 shared-slice-read-x8-2 : tie.Need-shared-slice-read-x8-2 Inv-loop μ-loop
 shared-slice-read-x8-2 c = search needs
 
--- src/lib.rt:80:19
 x8-requires : tie.Need-x8-requires Inv-loop μ-loop
 x8-requires c κs = search needs
 
--- src/lib.rt:80:14
 wide-requires : tie.Need-wide-requires Inv-loop μ-loop
 wide-requires c κs = search needs
 
--- src/lib.rt:80:9
 add-d : tie.Need-add-d Inv-loop μ-loop
 add-d c = omega (arith, c .before .before .before .before .before .loop .inv .2, c .wide .ensures .1, c .before .before .before .before .before .before .before .before .pre .1)
 
--- src/lib.rt:81:9
 add-i : tie.Need-add-i Inv-loop μ-loop
 add-i c = search needs
 
--- src/lib.rt:79:5
 loop-less : tie.Need-loop-less Inv-loop μ-loop
 loop-less c = search needs
 
--- src/lib.rt:79:5
 loop-again : tie.Need-loop-again Inv-loop μ-loop
 loop-again c = (omega arith, differ-more (now (c .before .before .before .before .before .before .before .before .args .tag)) (now (c .before .before .before .before .before .before .before .before .args .right)) (c .before .before .before .before .before .loop .i) (c .before .before .before .before .before .loop .d) _ (c .before .before .before .before .before .loop .inv .1) (c .wide .ensures .0 ∙ c .before .x8 .ensures), omega (arith, c .before .before .before .before .before .loop .inv .2, c .wide .ensures .1))
 
--- src/lib.rt:84:9
 returns : tie.Need-returns Inv-loop μ-loop
 returns c = picked-one _ (differ-same (now (c .before .before .before .before .before .args .tag)) (now (c .before .before .before .before .before .args .right)) (length (now (c .before .before .before .before .before .args .tag))) refl (c .before .before .before .before .before .pre .0) (ap (differ (now (c .before .before .before .before .before .args .tag)) (now (c .before .before .before .before .before .args .right))) (omega arith) ∙ sym (c .before .before .loop .inv .1) ∙ c .if1 .taken))
 
--- src/lib.rt:73:1
 returns-2 : tie.Need-returns-2 Inv-loop μ-loop
 returns-2 c = picked-zero _ (differ-other (now (c .before .before .before .before .before .args .tag)) (now (c .before .before .before .before .before .args .right)) (length (now (c .before .before .before .before .before .args .tag))) refl (c .before .before .before .before .before .pre .0) (λ e. c .if1 .left (c .before .before .loop .inv .1 ∙ ap (differ (now (c .before .before .before .before .before .args .tag)) (now (c .before .before .before .before .before .args .right))) (omega arith) ∙ e)))
 

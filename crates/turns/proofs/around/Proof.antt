@@ -6,11 +6,9 @@ use Rattle.turns.proofs.around.Tie as tie
 use Rattle.turns.proofs.around.Reads as reads
 use Rattle.turns.proofs.around.Lts as lts
 
--- src/lib.rt:43:10
 sub-result : tie.Need-sub-result
 sub-result c = omega (arith, width-pos (c .args .c) (c .pre))
 
--- src/lib.rt:39:1
 returns : tie.Need-returns
 returns c = (mask (c .args .c) (c .args .n) (c .pre), mask-lt (c .args .c) (c .args .n) (c .pre))
 

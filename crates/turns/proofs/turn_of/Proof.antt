@@ -6,19 +6,15 @@ use Rattle.turns.proofs.turn_of.Tie as tie
 use Rattle.turns.proofs.turn_of.Reads as reads
 use Rattle.turns.proofs.turn_of.Lts as lts
 
--- src/lib.rt:52:9
 returns : tie.Need-returns
 returns c = (sym (same-turn (c .before .args .c) (c .before .args .kc) (c .before .args .e) (c .if1 .taken)), omega arith)
 
--- src/lib.rt:54:13
 mul-result : tie.Need-mul-result
 mul-result c = record { fits = digit-fits (omega arith) (c .before .pre .0) }
 
--- src/lib.rt:54:5
 add-result : tie.Need-add-result
 add-result c = record { fits = turn-fits (omega arith) (omega arith) (c .before .pre .0) }
 
--- src/lib.rt:47:1
 returns-2 : tie.Need-returns-2
 returns-2 c = (sym (other-turn (c .before .args .c) (c .before .args .kc) (c .before .args .e) (c .if1 .left)), turn-le (omega arith) (omega arith) (c .before .pre .0))
 

@@ -11,15 +11,12 @@ use Rattle.unchains.proofs.open_first.Reads as reads
 use Rattle.unchains.proofs.open_first.Lts as lts
 use Rattle.open_block.proofs.open_blocks.Reads as open-blocks-reads
 
--- src/lib.rt:30:5
 open-blocks-requires : tie.Need-open-blocks-requires
 open-blocks-requires c κs = search needs
 
--- src/lib.rt:18:1
 same-length : tie.Need-same-length
 same-length c = search needs
 
--- src/lib.rt:18:1
 returns : tie.Need-returns
 returns c = λ k un. held-open (c .before .before .before .before .before .before .args .c) (c .before .before .before .before .before .before .args .t) (keysOf (c .before .before .before .before .before .before .args .c) k) (now (c .before .before .before .before .before .before .args .s)) (c .before .before .open-blocks .last .1 .1 .1 .0) (λ n. omega (arith, c .before .before .before .before .before .slice-known .given n)) (walk-unseal (c .before .before .before .before .before .before .args .c) (c .before .before .before .before .before .before .args .t) k (now (c .before .before .before .before .before .before .args .ks)) un 1 (now (c .before .before .before .before .before .before .args .s)) _ (c .before .before .open-blocks .ensures))
 

@@ -12,39 +12,30 @@ use Rattle.unchains.proofs.uncbc.Lts as lts
 use Rattle.cells.proofs.store.Reads as store-reads
 use Rattle.unchains.proofs.open_in.Reads as open-in-reads
 
--- src/lib.rt:90:27
 mul-n : tie.Need-mul-n
 mul-n c = search needs
 
--- src/lib.rt:90:13
 div-n : tie.Need-div-n
 div-n c = omega (arith, width-lt (c .before .before .before .before .args .c) (c .before .before .before .before .pre .3))
 
--- src/lib.rt:92:35
 slice-aggregate-open-in : tie.Need-slice-aggregate-open-in
 slice-aggregate-open-in c = search needs
 
--- src/lib.rt:92:5
 open-in-requires : tie.Need-open-in-requires
 open-in-requires c κs = (c .before .before .before .before .before .pre .0, c .before .before .before .before .before .pre .1, c .before .before .before .before .before .pre .2, c .before .before .before .before .before .pre .3, c .before .before .before .before .before .pre .4, c .before .before .before .before .before .pre .5, some-whole (c .before .before .before .before .before .args .c) (length (now (c .before .before .before .before .before .args .text))) (c .before .before .before .before .before .pre .7) (c .before .before .before .before .before .pre .9), omega (arith, whole-columns (c .before .before .before .before .before .args .c) (length (now (c .before .before .before .before .before .args .text))) (c .before .before .before .before .before .pre .9), c .before .before .before .before .before .pre .8), c .before .before .before .before .before .pre .6, whole-columns (c .before .before .before .before .before .args .c) (length (now (c .before .before .before .before .before .args .text))) (c .before .before .before .before .before .pre .9))
 
--- src/lib.rt:93:18
 slice-aggregate-store : tie.Need-slice-aggregate-store
 slice-aggregate-store c = search needs
 
--- src/lib.rt:93:33
 mul-store : tie.Need-mul-store
 mul-store c = omega (arith, whole-columns (c .before .before .before .before .before .before .before .before .before .args .c) (length (now (c .before .before .before .before .before .before .before .before .before .args .text))) (c .before .before .before .before .before .before .before .before .before .pre .9), c .before .before .before .before .before .before .before .before .before .pre .8)
 
--- src/lib.rt:93:5
 store-requires : tie.Need-store-requires
 store-requires c κs = (omega (arith, whole-columns (c .before .before .before .before .before .before .before .before .before .args .c) (length (now (c .before .before .before .before .before .before .before .before .before .args .text))) (c .before .before .before .before .before .before .before .before .before .pre .9), c .before .before .before .before .before .before .before .before .before .pre .8, c .before .before .before .open-in .kept .1 .1 .1 .1 .1 .1 .0), omega (arith, whole-columns (c .before .before .before .before .before .before .before .before .before .args .c) (length (now (c .before .before .before .before .before .before .before .before .before .args .text))) (c .before .before .before .before .before .before .before .before .before .pre .9), c .before .before .before .before .before .before .before .before .before .pre .10))
 
--- src/lib.rt:76:1
 same-length : tie.Need-same-length
 same-length c = search needs
 
--- src/lib.rt:76:1
 returns : tie.Need-returns
 returns c = λ k un. stored-all ((c .before .before .before .before .before .before .before .before .before .before .before .before .args .c) * ((length (now (c .before .before .before .before .before .before .before .before .before .before .before .before .args .text))) / (8 * c .before .before .before .before .before .before .before .before .before .before .before .before .args .c))) (length (now (c .before .before .before .before .before .before .before .before .before .before .before .before .args .text))) _ _ (now (c .before .before .before .before .before .before .before .before .before .before .before .before .args .out)) _ (whole-columns (c .before .before .before .before .before .before .before .before .before .before .before .before .args .c) (length (now (c .before .before .before .before .before .before .before .before .before .before .before .before .args .text))) (c .before .before .before .before .before .before .before .before .before .before .before .before .pre .9)) (c .before .before .store .ensures) (c .before .before .before .before .before .before .open-in .ensures k un)
 

@@ -9,75 +9,57 @@ use Rattle.words.proofs.put_word.Tie as tie
 use Rattle.words.proofs.put_word.Reads as reads
 use Rattle.words.proofs.put_word.Lts as lts
 
--- src/lib.rt:29:14
 mul-at : tie.Need-mul-at
 mul-at c = search needs
 
--- src/lib.rt:30:13
 cast-s : tie.Need-cast-s
 cast-s c = search needs
 
--- src/lib.rt:30:5
 mul-s : tie.Need-mul-s
 mul-s c = search needs
 
--- src/lib.rt:30:5
 slice-write-s : tie.Need-slice-write-s
 slice-write-s c = search needs
 
--- src/lib.rt:31:17
 cast-s-2 : tie.Need-cast-s-2
 cast-s-2 c = search needs
 
--- src/lib.rt:31:7
 add-s : tie.Need-add-s
 add-s c = search needs
 
--- src/lib.rt:31:5
 mul-s-2 : tie.Need-mul-s-2
 mul-s-2 c = search needs
 
--- src/lib.rt:31:5
 slice-write-s-2 : tie.Need-slice-write-s-2
 slice-write-s-2 c = simp length-set (omega arith)
 
--- src/lib.rt:32:17
 cast-s-3 : tie.Need-cast-s-3
 cast-s-3 c = search needs
 
--- src/lib.rt:32:7
 add-s-2 : tie.Need-add-s-2
 add-s-2 c = search needs
 
--- src/lib.rt:32:5
 mul-s-3 : tie.Need-mul-s-3
 mul-s-3 c = search needs
 
--- src/lib.rt:32:5
 slice-write-s-3 : tie.Need-slice-write-s-3
 slice-write-s-3 c = simp length-set (omega arith)
 
--- src/lib.rt:33:17
 cast-s-4 : tie.Need-cast-s-4
 cast-s-4 c = search needs
 
--- src/lib.rt:33:7
 add-s-3 : tie.Need-add-s-3
 add-s-3 c = search needs
 
--- src/lib.rt:33:5
 mul-s-4 : tie.Need-mul-s-4
 mul-s-4 c = search needs
 
--- src/lib.rt:33:5
 slice-write-s-4 : tie.Need-slice-write-s-4
 slice-write-s-4 c = simp length-set (omega arith)
 
--- src/lib.rt:25:1
 same-length : tie.Need-same-length
 same-length c = simp length-set
 
--- src/lib.rt:25:1
 returns : tie.Need-returns
 unfolding putWord pieces
 returns c = sets-four (c .args .s .now) (4 * c .args .j) _ _ _ _

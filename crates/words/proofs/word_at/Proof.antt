@@ -8,95 +8,72 @@ use Rattle.words.proofs.word_at.Reads as reads
 use Rattle.words.proofs.word_at.Lts as lts
 use Rattle.words.proofs.wide.Reads as wide-reads
 
--- src/lib.rt:18:14
 mul-at : tie.Need-mul-at
 mul-at c = search needs
 
--- src/lib.rt:19:20
 add-wide : tie.Need-add-wide
 add-wide c = search needs
 
--- src/lib.rt:19:18
 mul-wide : tie.Need-mul-wide
 mul-wide c = search needs
 
--- src/lib.rt:19:18
 shared-slice-read-wide : tie.Need-shared-slice-read-wide
 shared-slice-read-wide c = search needs
 
--- src/lib.rt:19:13
 wide-requires : tie.Need-wide-requires
 wide-requires c κs = search needs
 
--- src/lib.rt:19:13
 mul-d : tie.Need-mul-d
 mul-d c = search needs
 
--- src/lib.rt:19:46
 add-wide-2 : tie.Need-add-wide-2
 add-wide-2 c = search needs
 
--- src/lib.rt:19:44
 mul-wide-2 : tie.Need-mul-wide-2
 mul-wide-2 c = search needs
 
--- src/lib.rt:19:44
 shared-slice-read-wide-2 : tie.Need-shared-slice-read-wide-2
 shared-slice-read-wide-2 c = search needs
 
--- src/lib.rt:19:39
 wide-requires-2 : tie.Need-wide-requires-2
 wide-requires-2 c κs = search needs
 
--- src/lib.rt:19:13
 add-d : tie.Need-add-d
 add-d c = search needs
 
--- src/lib.rt:20:13
 mul-e : tie.Need-mul-e
 mul-e c = search needs
 
--- src/lib.rt:20:32
 add-wide-3 : tie.Need-add-wide-3
 add-wide-3 c = search needs
 
--- src/lib.rt:20:30
 mul-wide-3 : tie.Need-mul-wide-3
 mul-wide-3 c = search needs
 
--- src/lib.rt:20:30
 shared-slice-read-wide-3 : tie.Need-shared-slice-read-wide-3
 shared-slice-read-wide-3 c = search needs
 
--- src/lib.rt:20:25
 wide-requires-3 : tie.Need-wide-requires-3
 wide-requires-3 c κs = search needs
 
--- src/lib.rt:20:13
 add-e : tie.Need-add-e
 add-e c = search needs
 
--- src/lib.rt:21:5
 mul-result : tie.Need-mul-result
 mul-result c = search needs
 
--- src/lib.rt:21:22
 mul-wide-4 : tie.Need-mul-wide-4
 mul-wide-4 c = search needs
 
--- src/lib.rt:21:22
 shared-slice-read-wide-4 : tie.Need-shared-slice-read-wide-4
 shared-slice-read-wide-4 c = search needs
 
--- src/lib.rt:21:17
 wide-requires-4 : tie.Need-wide-requires-4
 wide-requires-4 c κs = search needs
 
--- src/lib.rt:21:5
 add-result : tie.Need-add-result
 add-result c = search needs
 
--- src/lib.rt:14:1
 returns : tie.Need-returns
 unfolding wordAt
 returns c = cc

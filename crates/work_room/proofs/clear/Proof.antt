@@ -12,38 +12,30 @@ Inv-loop work₀ n at₀ work at = (at ≤ n) × Zeroed work₀ at work
 abbrev μ-loop : tie.MeasureT-loop
 μ-loop work₀ n at₀ work at = n - at
 
--- src/lib.rt:54:5
 loop-holds : tie.Need-loop-holds Inv-loop μ-loop
 loop-holds c = (omega arith, zero-none (c .before .args .work .now))
 
--- src/lib.rt:55:13
 end-of-requires : tie.Need-end-of-requires Inv-loop μ-loop
 end-of-requires c κs = omega arith
 
--- src/lib.rt:56:16
 largest-requires : tie.Need-largest-requires Inv-loop μ-loop
 largest-requires c κs = let l = c .before .before .before .loop .inv .1 .long in (omega arith, omega arith)
 
--- src/lib.rt:57:13
 zero-requires : tie.Need-zero-requires Inv-loop μ-loop
 zero-requires c κs = let l = c .before .before .before .before .before .before .loop .inv .1 .long in (omega arith, omega arith)
 
--- src/lib.rt:54:5
 loop-less : tie.Need-loop-less Inv-loop μ-loop
 loop-less c = omega arith
 
--- src/lib.rt:54:5
 loop-again : tie.Need-loop-again Inv-loop μ-loop
 loop-again c =
     let z = c .before .before .zero in
     let l = c .before .before .before .before .before .before .before .before .before .loop in
     (omega arith, zero-more (l .inv .1) (omega arith) (record { long = z .kept .0; is = z .ensures }))
 
--- src/lib.rt:54:5
 loop-less-2 : tie.Need-loop-less-2 Inv-loop μ-loop
 loop-less-2 c = omega arith
 
--- src/lib.rt:54:5
 loop-again-2 : tie.Need-loop-again-2 Inv-loop μ-loop
 loop-again-2 c =
     let l = c .before .before .before .before .before .loop in
@@ -54,11 +46,9 @@ loop-again-2 c =
           (zero-already (l .work) (l .at) (c .before .before .before .end-of .result) (omega arith) (omega arith) (sym (c .before .largest .ensures) ∙ m)),
     )
 
--- src/lib.rt:49:1
 same-length : tie.Need-same-length Inv-loop μ-loop
 same-length c = c .before .loop .inv .1 .long
 
--- src/lib.rt:49:1
 returns : tie.Need-returns Inv-loop μ-loop
 returns c =
     let e : c .before .loop .at ≡ c .before .before .before .args .n = omega arith in

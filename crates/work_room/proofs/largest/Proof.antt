@@ -14,23 +14,18 @@ Inv-loop work at e x₀ i₀ x i = (at ≤ i) × (i ≤ e) × (x ≡ foldr max 0
 abbrev μ-loop : tie.MeasureT-loop
 μ-loop work at e x₀ i₀ x i = e - i
 
--- src/lib.rt:15:5
 loop-holds : tie.Need-loop-holds Inv-loop μ-loop
 loop-holds c = (omega arith, omega arith, largest-none (c .args .work .now) (c .args .at))
 
--- src/lib.rt:16:17
 shared-slice-read-w : tie.Need-shared-slice-read-w Inv-loop μ-loop
 shared-slice-read-w c = omega arith
 
--- src/lib.rt:20:9
 add-i : tie.Need-add-i Inv-loop μ-loop
 add-i c = omega arith
 
--- src/lib.rt:15:5
 loop-less : tie.Need-loop-less Inv-loop μ-loop
 loop-less c = omega arith
 
--- src/lib.rt:15:5
 loop-again : tie.Need-loop-again Inv-loop μ-loop
 loop-again c =
     let a = c .before .before .before .before .args in
@@ -39,7 +34,6 @@ loop-again c =
     let w : c .if1 .x ≡ max (l .x) b = ⊎-elim (λ w. omega arith) (λ w. omega arith) (c .if1 .came) in
     (omega arith, omega arith, w ∙ ap (λ y. max y b) (l .inv .2) ∙ largest-more (a .work .now) (a .at) (l .i) (omega arith) (omega arith))
 
--- src/lib.rt:9:1
 returns : tie.Need-returns Inv-loop μ-loop
 returns c =
     let a = c .before .before .args in

@@ -14,31 +14,24 @@ Inv-loop work₀ at e k₀ work k = (at ≤ k) × (k ≤ e) × Stretch work₀ a
 abbrev μ-loop : tie.MeasureT-loop
 μ-loop work₀ at e k₀ work k = e - k
 
--- src/lib.rt:31:5
 loop-holds : tie.Need-loop-holds Inv-loop μ-loop
 loop-holds c = (omega arith, omega arith, stretch-none (c .args .work .now) (c .args .at))
 
--- src/lib.rt:32:9
 slice-write-work : tie.Need-slice-write-work Inv-loop μ-loop
 slice-write-work c = let l = c .before .loop .inv .2 .long in omega arith
 
--- src/lib.rt:33:9
 add-k : tie.Need-add-k Inv-loop μ-loop
 add-k c = omega arith
 
--- src/lib.rt:31:5
 loop-less : tie.Need-loop-less Inv-loop μ-loop
 loop-less c = omega arith
 
--- src/lib.rt:31:5
 loop-again : tie.Need-loop-again Inv-loop μ-loop
 loop-again c = (omega arith, omega arith, stretch-more (c .before .loop .inv .2) (omega arith) (omega arith))
 
--- src/lib.rt:26:1
 same-length : tie.Need-same-length Inv-loop μ-loop
 same-length c = c .before .loop .inv .2 .long
 
--- src/lib.rt:26:1
 returns : tie.Need-returns Inv-loop μ-loop
 returns c =
     let a = c .before .before .args in
