@@ -1,0 +1,2 @@
+-- The need of each call.
+pub mod Points
