@@ -38,24 +38,42 @@ fn proved_archive() -> PathBuf {
         .parent()
         .expect("host/ stands in the repository")
         .to_path_buf();
-    for part in ["crates", "crates.txt"] {
-        println!("cargo:rerun-if-changed={}", top.join(part).display());
-    }
-    let run = Command::new("rt")
-        .args(["staticlib", "katsunebyo"])
-        .current_dir(&top)
-        .output();
+    watch(&top);
+    let face = top.join("crates/katsunebyo_c");
+    let run = Command::new("rt").arg("lib").current_dir(&face).output();
     match run {
         Err(why) => fail(&format!(
             "`rt` of the Rattle toolchain did not start ({why}). Put it on PATH, or name a ready archive: KATSUNEBYO_LIB=/path/to/libkatsunebyo.a"
         )),
         Ok(run) if !run.status.success() => fail(&format!(
-            "`rt staticlib katsunebyo` failed ({}):\n{}{}",
+            "`rt lib` in {} failed ({}):\n{}{}",
+            face.display(),
             run.status,
             String::from_utf8_lossy(&run.stdout),
             String::from_utf8_lossy(&run.stderr)
         )),
-        Ok(_) => top.join("target/staticlib/libkatsunebyo.a"),
+        Ok(_) => face.join("out/libkatsunebyo_c.a"),
+    }
+}
+
+/// Has the library built anew where a crate's text changes. Its out/ folder, which `rt lib` writes, is not watched.
+fn watch(top: &Path) {
+    println!(
+        "cargo:rerun-if-changed={}",
+        top.join("crates.txt").display()
+    );
+    let crates = top.join("crates");
+    let found = match std::fs::read_dir(&crates) {
+        Ok(found) => found,
+        Err(why) => fail(&format!("{} could not be read: {why}", crates.display())),
+    };
+    for folder in found.flatten() {
+        for part in ["src", "specs", "proofs"] {
+            let part = folder.path().join(part);
+            if part.exists() {
+                println!("cargo:rerun-if-changed={}", part.display());
+            }
+        }
     }
 }
 

@@ -1,4 +1,4 @@
-// The face: what a host links. Each entry takes any bytes, lengths and numbers, gives back the number of document 01, section 7, and writes the length.
+// The face: what a host calls; `katsunebyo_c` exports it to C. Each entry takes any bytes, lengths and numbers, gives back the number of document 01, section 7, and writes the length.
 ghost use Rattle.std.specs.Prelude.{◌≡◌, []};
 ghost use Rattle.common.specs.Answer.{deliver};
 ghost use Rattle.modes.specs.Cell.{Call, cell, cell_of};
@@ -10,8 +10,7 @@ ghost use Rattle.entries.specs.Seen.{seen};
 use preparing::Ended;
 
 // One block sealed.
-#[unsafe(no_mangle)]
-pub extern "C" fn katsu_blk(
+pub fn katsu_blk(
     suite: u64,
     key: &[u8],
     block: &[u8],
@@ -27,8 +26,7 @@ pub extern "C" fn katsu_blk(
 }
 
 // One block opened.
-#[unsafe(no_mangle)]
-pub extern "C" fn katsu_unblk(
+pub fn katsu_unblk(
     suite: u64,
     key: &[u8],
     block: &[u8],
@@ -44,8 +42,7 @@ pub extern "C" fn katsu_unblk(
 }
 
 // Counter mode (document 003, section 7); opening is the same call.
-#[unsafe(no_mangle)]
-pub extern "C" fn katsu_ctr(
+pub fn katsu_ctr(
     suite: u64,
     key: &[u8],
     iv: &[u8],
@@ -59,8 +56,7 @@ pub extern "C" fn katsu_ctr(
 }
 
 // Output feedback (section 11); opening is the same call.
-#[unsafe(no_mangle)]
-pub extern "C" fn katsu_ofb(
+pub fn katsu_ofb(
     suite: u64,
     key: &[u8],
     iv: &[u8],
@@ -74,8 +70,7 @@ pub extern "C" fn katsu_ofb(
 }
 
 // Cipher feedback of whole blocks (section 8).
-#[unsafe(no_mangle)]
-pub extern "C" fn katsu_cfb(
+pub fn katsu_cfb(
     suite: u64,
     key: &[u8],
     iv: &[u8],
@@ -89,8 +84,7 @@ pub extern "C" fn katsu_cfb(
 }
 
 // Cipher feedback opened.
-#[unsafe(no_mangle)]
-pub extern "C" fn katsu_uncfb(
+pub fn katsu_uncfb(
     suite: u64,
     key: &[u8],
     iv: &[u8],
@@ -104,8 +98,7 @@ pub extern "C" fn katsu_uncfb(
 }
 
 // Chaining of whole blocks (section 10).
-#[unsafe(no_mangle)]
-pub extern "C" fn katsu_cbc(
+pub fn katsu_cbc(
     suite: u64,
     key: &[u8],
     iv: &[u8],
@@ -119,8 +112,7 @@ pub extern "C" fn katsu_cbc(
 }
 
 // Chaining opened.
-#[unsafe(no_mangle)]
-pub extern "C" fn katsu_uncbc(
+pub fn katsu_uncbc(
     suite: u64,
     key: &[u8],
     iv: &[u8],
@@ -134,8 +126,7 @@ pub extern "C" fn katsu_uncbc(
 }
 
 // Chaining of a text with its fill.
-#[unsafe(no_mangle)]
-pub extern "C" fn katsu_cbp(
+pub fn katsu_cbp(
     suite: u64,
     key: &[u8],
     iv: &[u8],
@@ -149,8 +140,7 @@ pub extern "C" fn katsu_cbp(
 }
 
 // Chaining opened, and the fill taken off.
-#[unsafe(no_mangle)]
-pub extern "C" fn katsu_uncbp(
+pub fn katsu_uncbp(
     suite: u64,
     key: &[u8],
     iv: &[u8],
@@ -164,8 +154,7 @@ pub extern "C" fn katsu_uncbp(
 }
 
 // The tag of a text (section 9), one block.
-#[unsafe(no_mangle)]
-pub extern "C" fn katsu_mac(
+pub fn katsu_mac(
     suite: u64,
     key: &[u8],
     text: &[u8],
@@ -181,8 +170,7 @@ pub extern "C" fn katsu_mac(
 }
 
 // Whether a tag is the leading bytes of the text's tag, 8 or more of them: 01 or 00.
-#[unsafe(no_mangle)]
-pub extern "C" fn katsu_chk(
+pub fn katsu_chk(
     suite: u64,
     key: &[u8],
     tag: &[u8],
@@ -196,8 +184,7 @@ pub extern "C" fn katsu_chk(
 }
 
 // A recipe text prepared to an image, with the values of `#`; the place is where in the text a refusal stands.
-#[unsafe(no_mangle)]
-pub extern "C" fn katsu_prepare(
+pub fn katsu_prepare(
     text: &[u8],
     list: &[u8],
     out: &mut [u8],
@@ -222,8 +209,7 @@ pub extern "C" fn katsu_prepare(
 }
 
 // An image run on a list of values, once a row.
-#[unsafe(no_mangle)]
-pub extern "C" fn katsu_run<'a>(
+pub fn katsu_run<'a>(
     image: &'a [u8],
     list: &'a [u8],
     out: &mut [u8],
