@@ -10,13 +10,7 @@ ghost use Rattle.entries.specs.Seen.{seen};
 use preparing::Ended;
 
 // One block sealed.
-pub fn katsu_blk(
-    suite: u64,
-    key: &[u8],
-    block: &[u8],
-    out: &mut [u8],
-    length: &mut usize,
-) -> u32
+pub fn katsu_blk(suite: u64, key: &[u8], block: &[u8], out: &mut [u8], length: &mut usize) -> u32
     ensures { seen result length.new out.new ≡ deliver (cell Call.blk suite key.now [] block.now) out.old }
 {
     answers::give(
@@ -26,13 +20,7 @@ pub fn katsu_blk(
 }
 
 // One block opened.
-pub fn katsu_unblk(
-    suite: u64,
-    key: &[u8],
-    block: &[u8],
-    out: &mut [u8],
-    length: &mut usize,
-) -> u32
+pub fn katsu_unblk(suite: u64, key: &[u8], block: &[u8], out: &mut [u8], length: &mut usize) -> u32
     ensures { seen result length.new out.new ≡ deliver (cell Call.unblk suite key.now [] block.now) out.old }
 {
     answers::give(
@@ -154,13 +142,7 @@ pub fn katsu_uncbp(
 }
 
 // The tag of a text (section 9), one block.
-pub fn katsu_mac(
-    suite: u64,
-    key: &[u8],
-    text: &[u8],
-    out: &mut [u8],
-    length: &mut usize,
-) -> u32
+pub fn katsu_mac(suite: u64, key: &[u8], text: &[u8], out: &mut [u8], length: &mut usize) -> u32
     ensures { seen result length.new out.new ≡ deliver (cell Call.mac suite key.now [] text.now) out.old }
 {
     answers::give(
