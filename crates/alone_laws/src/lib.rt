@@ -1,1 +1,2 @@
 // Laws of a block that stands alone; they are in proofs/.
+#![tactic(auto)]

@@ -1,13 +1,7 @@
 -- What is told, case by case, and the same told of a definition's answer.
-use mathlib.Core.Path.{◌≡◌, refl, sym, ap, ◌∙◌}
-use mathlib.Core.List.{List, ◌++◌}
-use Prim.Native.Nat.{ℕ, ◌≤◌}
-use native.Mathlib.Omega.{arith}
-use lib.ListN.{length, drop}
-use Rattle.common.specs.Choice.{pick}
-use Rattle.common.specs.Answer.{Delivered, deliver, refusal}
-use Rattle.common.specs.Answer.Answer.{value, refused}
-use Rattle.answers.specs.Told.{number_of, count_of, told_of}
+use mathlib.Core.Path.{◌≡◌, sym, ap}
+use Prim.Native.Nat.{ℕ}
+use Rattle.answers.specs.Told.{number_of, count_of}
 use Rattle.answers.specs.declared.Told.{Told}
 use Rattle.answers.specs.declared.Told.TheVariants.{Done, Refused}
 

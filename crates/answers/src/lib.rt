@@ -1,4 +1,6 @@
 // What a call tells its caller (document 01, section 7): done with a length, or the number of a refusal.
+#![tactic(auto)]
+
 ghost use Rattle.std.specs.Prelude.{◌≡◌};
 ghost use Rattle.answers.specs.Told.{number_of, count_of};
 

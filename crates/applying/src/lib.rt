@@ -1,5 +1,7 @@
 // Calls applied to arguments in slots of the work room: they are lent where they stand, and the call writes to a room of its own, so that its buffers are separate;
 // then the answer goes to the first slot.
+#![tactic(auto)]
+
 ghost use Rattle.std.specs.Prelude.{◌≡◌, [], ◌∷◌, ◌+◌, ◌≤◌, length, take, drop};
 ghost use Rattle.common.specs.Answer.{deliver};
 ghost use Rattle.tree.specs.Bounds.{arguments_of, when_kind};

@@ -1,9 +1,9 @@
 -- A loop that replaces the columns of a block one by one, each by what stood there and its place.
-use Rattle.std.proofs.Common.{◌≡◌, ℕ, suc, ◌+◌, ◌-◌, ◌*◌, ◌%◌, ◌^◌, ◌<◌, ◌≤◌, ◌⊎◌, List, length, get_or, sym, refl, ap, ◌∙◌, subst, ap₂, mod-lt, mul-le-mul_left, mul-suc, add-one, arith}
+use Rattle.std.proofs.Common.{◌≡◌, ℕ, ◌+◌, ◌-◌, ◌*◌, ◌%◌, ◌^◌, ◌<◌, ◌≤◌, List, length, get_or, sym, ap, ◌∙◌, mod-lt, mul-le-mul_left, mul-suc, add-one, arith}
 use Rattle.common.specs.Places.{tab}
 use Rattle.common.proofs.Places.{get_d_tab, tab_ext}
-use Rattle.words.specs.Words.{word_at, put_word, put_words, block_at, Walked}
-use Rattle.words.proofs.Walks.{puts_other, walk_more}
+use Rattle.words.specs.Words.{word_at, put_words, block_at, Walked}
+use Rattle.words.proofs.Walks.{walk_more}
 use Rattle.kalyna.specs.Round.{add_key, sub_key}
 use Rattle.rounds.specs.Rounds.{key_at}
 

@@ -1,4 +1,6 @@
 // A round key added to, or subtracted from, all blocks of a cell, column by column modulo 2^64.
+#![tactic(auto)]
+
 ghost use Rattle.std.specs.Prelude.{◌≡◌, ◌+◌, ◌-◌, ◌*◌, ◌%◌, ◌^◌, ◌≤◌, length, slice_index};
 ghost use Rattle.words.specs.Words.{word_at, put_words, Walked};
 ghost use Rattle.kalyna.specs.Round.{add_key, sub_key};

@@ -1,1 +1,2 @@
 // What past its checks a cipher call meets, for every suite. No code.
+#![tactic(auto)]

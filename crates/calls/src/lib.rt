@@ -1,4 +1,6 @@
 // A cipher call whole: its checks in their order, then what it makes, with tables that the caller lends.
+#![tactic(auto)]
+
 ghost use Rattle.std.specs.Prelude.{◌≡◌};
 ghost use Rattle.common.specs.Answer.{deliver};
 ghost use Rattle.answers.specs.Told.{told_of};

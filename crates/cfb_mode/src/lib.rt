@@ -1,4 +1,6 @@
 // Section 8 of document 003: the sealed text fed back, on cells of at most 1,024 bytes.
+#![tactic(auto)]
+
 ghost use Rattle.std.specs.Prelude.{◌≡◌, ◌++◌, ◌+◌, ◌*◌, ◌≤◌, ◌<◌, drop, length};
 ghost use Rattle.lookup.specs.Table.{seal_table};
 ghost use Rattle.words.specs.Words.{block_at};

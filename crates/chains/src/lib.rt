@@ -1,4 +1,6 @@
 // One block, and chaining (document 003, section 10), block by block in the first block of a cell.
+#![tactic(auto)]
+
 ghost use Rattle.std.specs.Prelude.{◌≡◌, ◌++◌, ◌+◌, ◌*◌, ◌/◌, ◌%◌, ◌≤◌, ◌<◌, take, drop, length};
 ghost use Rattle.lookup.specs.Table.{seal_table};
 ghost use Rattle.kalyna.specs.Block.{seal_bytes};

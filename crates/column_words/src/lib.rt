@@ -1,4 +1,6 @@
 // A column as a machine word: added modulo 2^64, and cut into the pieces that are looked up.
+#![tactic(auto)]
+
 ghost use Rattle.std.specs.Prelude.{◌≡◌, ◌+◌, ◌/◌, ◌%◌, ◌^◌};
 
 // 6.3.2: columns are added modulo 2^64.

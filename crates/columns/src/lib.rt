@@ -1,4 +1,6 @@
 // A column mixed by lookups in a lent table.
+#![tactic(auto)]
+
 ghost use Rattle.std.specs.Prelude.{◌≡◌, [], ◌∷◌, ◌+◌, ◌*◌, ◌/◌, ◌%◌, ◌≤◌, ◌<◌, get_or};
 ghost use Rattle.field.specs.Xor.{xor};
 ghost use Rattle.field.specs.Column.{pack};

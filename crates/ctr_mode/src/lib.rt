@@ -1,4 +1,6 @@
 // Section 7 of document 003: the gamma of a counter, on cells of at most 1,024 bytes.
+#![tactic(auto)]
+
 ghost use Rattle.std.specs.Prelude.{◌≡◌, ◌+◌, ◌*◌, ◌/◌, ◌^◌, ◌<◌, ◌≤◌, ◌++◌, length, drop};
 ghost use Rattle.common.specs.Places.{tab};
 ghost use Rattle.lookup.specs.Table.{seal_table};

@@ -1,24 +1,22 @@
 -- The cipher calls of a recipe mean what `cell` says: demand 3, stated for them.
-use mathlib.Core.Path.{◌≡◌, refl, sym, ap, ◌∙◌, subst}
+use mathlib.Core.Path.{◌≡◌, refl, sym, ap, ◌∙◌}
 use mathlib.Core.List.{List, [], ◌∷◌}
-use Prim.Native.Nat.{ℕ, zero, suc, ◌≤◌, ◌<◌}
-use native.Mathlib.Decide.{ℕ_discrete}
+use Prim.Native.Nat.{ℕ, zero, suc, ◌<◌}
 use native.Mathlib.Omega.{arith}
-use lib.ListN.{get_or, take, length}
-use Rattle.common.specs.Answer.{Value, Answer}
+use lib.ListN.{get_or, take}
+use Rattle.common.specs.Answer.{Value}
 use Rattle.common.specs.Answer.Answer.{value, refused}
 use Rattle.tree.specs.Tree.{Tree}
 use Rattle.tree.specs.Bounds.{Bytes}
 use Rattle.tree.specs.Names.{Binding, Running, unbound}
 use Rattle.tree.specs.Values.{IsValue}
 use Rattle.meaning.specs.Mean.{mean}
-use Rattle.meaning.specs.Real.{Cipher, real}
+use Rattle.meaning.specs.Real.{real}
 use Rattle.meaning.specs.Fold.{fold}
 use Rattle.meaning.specs.Values.{AllValues, Valued, CipherValued}
 use Rattle.meaning.specs.Numbers.{Numbered, CipherNumbered}
 use Rattle.meaning.proofs.Meaning.{real_fold_mean}
 use Rattle.suites.specs.Suites.{suite_of}
-use Rattle.suites.specs.declared.Suite.{Suite}
 use Rattle.suites.specs.declared.Named.{Named}
 use Rattle.suites.specs.declared.Named.TheVariants.{Known, Unknown}
 use Rattle.modes.specs.Cell.{Call, Side, cell, cell_of, arranged, call_of, side_of}

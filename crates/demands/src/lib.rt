@@ -1,1 +1,2 @@
 // The demands joined for the real cipher calls. No code.
+#![tactic(auto)]

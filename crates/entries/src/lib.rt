@@ -1,4 +1,6 @@
 // A cipher call that makes its own tables, once and only past its checks.
+#![tactic(auto)]
+
 ghost use Rattle.std.specs.Prelude.{◌≡◌};
 ghost use Rattle.common.specs.Answer.{deliver};
 ghost use Rattle.answers.specs.Told.{told_of};

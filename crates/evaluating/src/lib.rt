@@ -1,4 +1,6 @@
 // Evaluating (document 01, sections 5 and 6): descends into payloads; a value stands in a slot of the work room, arguments in the slots above it.
+#![tactic(auto)]
+
 ghost use Rattle.std.specs.Prelude.{◌≡◌, ◌+◌, ◌≤◌, ◌<◌, length, take, drop};
 ghost use Rattle.common.specs.Answer.{deliver};
 ghost use Rattle.tree.specs.Bounds.{arguments_of, when_kind};

@@ -1,4 +1,6 @@
 // The round keys of even index (document 003, 6.5.2), all made at once, as lanes of one walk.
+#![tactic(auto)]
+
 ghost use Rattle.std.specs.Prelude.{◌≡◌, ◌+◌, ◌*◌, ◌%◌, ◌^◌, ◌≤◌, get_or, length};
 ghost use Rattle.lookup.specs.Table.{seal_table};
 ghost use Rattle.words.specs.Words.{word_at, block_at};

@@ -1,12 +1,10 @@
 -- Multiplication in GF(2^8) by a constant is linear: it passes over xor, at all numbers. Two linear functions that agree at
 -- 1, 2, 4 .. 128 agree at each byte.
-use mathlib.Core.Path.{◌≡◌, refl, sym, ap, ap₂, ◌∙◌, subst}
-use Prim.Native.Nat.{ℕ, zero, suc, ◌+◌, ◌*◌, ◌/◌, ◌%◌, ◌^◌, ◌<◌, ◌≤◌}
-use native.Mathlib.Nat.{mod-lt, add-zero, zero-mul, one-mul, zero-add, le_trans, pow-suc}
+use mathlib.Core.Path.{◌≡◌, sym, ap, ap₂, ◌∙◌, subst}
+use Prim.Native.Nat.{ℕ, zero, suc, ◌+◌, ◌*◌, ◌/◌, ◌%◌, ◌^◌, ◌<◌}
+use native.Mathlib.Nat.{mod-lt, add-zero, zero-mul, one-mul}
 use native.Mathlib.Omega.{arith}
-use native.Mathlib.Numerals.{add-one}
-use lib.Pow.{pow_pos, split}
-use lib.Bits.{xor_shifted}
+use lib.Pow.{pow_pos}
 use Rattle.field.specs.Xor.{xor}
 use Rattle.field.specs.Field.{polynomial, double, times_digits, times}
 use Rattle.field.proofs.XorLaws as X

@@ -1,10 +1,10 @@
 -- The inverse mixing undoes the mixing, at every column of bytes: by linearity it is enough at single digits, where antt computes it.
-use mathlib.Core.Path.{◌≡◌, refl, sym, ap, ap₂, ◌∙◌, subst}
+use mathlib.Core.Path.{◌≡◌, refl, sym, ap, ap₂, ◌∙◌}
 use mathlib.Core.Bool.{Bool, true, false}
 use mathlib.Core.List.{List}
-use Prim.Native.Nat.{ℕ, zero, suc, ◌+◌, ◌*◌, ◌/◌, ◌%◌, ◌^◌, ◌<◌, ◌≤◌}
-use native.Mathlib.Nat.{mod-lt, add-zero, zero-mul, one-mul, zero-add, le_of_suc-le-suc, not-suc-le-zero, lt_irrefl, le_refl}
-use native.Mathlib.Decide.{dec_lt, dec_le, ℕ_discrete}
+use Prim.Native.Nat.{ℕ, zero, suc, ◌^◌, ◌<◌, ◌≤◌}
+use native.Mathlib.Nat.{not-suc-le-zero}
+use native.Mathlib.Decide.{dec_lt}
 use native.Mathlib.Omega.{arith}
 use lib.Dec.{T, eqb, eqb→eq}
 use borrow.Author.Tests.{eq-eqb, ne_eqb}
@@ -13,7 +13,7 @@ use Rattle.field.specs.Xor.{xor}
 use Rattle.field.specs.Field.{double, times_digits, times}
 use Rattle.field.specs.Mixing.{xsum, coef, product, forward, backward}
 use Rattle.field.proofs.XorLaws as X
-use Rattle.field.proofs.FieldLaws.{Lin, lin_zero, times_lin, times_lt, agree}
+use Rattle.field.proofs.FieldLaws.{Lin, lin_zero, times_lin, agree}
 
 -- ---- sums by xor
 

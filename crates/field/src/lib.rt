@@ -1,4 +1,6 @@
 // xor of bytes and words, under the name of specs/
+#![tactic(auto)]
+
 ghost use Rattle.std.specs.Prelude.{◌≡◌, ◌+◌, ◌%◌, ◌^◌};
 ghost use Rattle.field.specs.Xor.{xor};
 

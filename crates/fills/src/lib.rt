@@ -1,4 +1,6 @@
 // The fill (document 003, Annex Б): put on a text that is chained, and found in what was opened.
+#![tactic(auto)]
+
 ghost use Rattle.std.specs.Prelude.{◌≡◌, [], ◌∷◌, ◌++◌, ◌+◌, ◌*◌, ◌/◌, ◌≤◌, ◌<◌, get_or, take, drop, length, replicate};
 ghost use Rattle.common.specs.Places.{tab};
 ghost use Rattle.lookup.specs.Table.{seal_table};

@@ -1,4 +1,6 @@
 // A folded record written to the output, read from the top (document 01, section 5): constants, chosen sides, and what stays, in its place.
+#![tactic(auto)]
+
 ghost use Rattle.std.specs.Prelude.{length};
 ghost use Rattle.ways.specs.Ways.{Ready};
 ghost use Rattle.fold_size.specs.Folded.{folded_at, folded_past, ReadyAll};

@@ -1,4 +1,6 @@
 // The size of a folded record, read from the top (document 01, section 5). A dropped side is passed by, and nothing stops early.
+#![tactic(auto)]
+
 ghost use Rattle.std.specs.Prelude.{◌≡◌, length};
 ghost use Rattle.ways.specs.Ways.{Ready};
 ghost use Rattle.fold_size.specs.Folded.{folded_at, folded_past, ReadyAll};

@@ -1,1 +1,2 @@
 // Folding read from the top: definitions and laws alone.
+#![tactic(auto)]

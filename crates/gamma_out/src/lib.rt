@@ -1,4 +1,6 @@
 // How a gamma in the cell meets the text (document 003, sections 7, 8 and 11), on cells of at most 1,024 bytes.
+#![tactic(auto)]
+
 ghost use Rattle.std.specs.Prelude.{◌≡◌, ◌++◌, ◌+◌, ◌*◌, ◌%◌, ◌≤◌, get_or, take, drop, length};
 ghost use Rattle.common.specs.Places.{tab};
 ghost use Rattle.field.specs.Xor.{xor};

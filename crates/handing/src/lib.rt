@@ -1,4 +1,6 @@
 // Values handed out: bytes written into an output room, and an answer told (document 01, section 7).
+#![tactic(auto)]
+
 ghost use Rattle.std.specs.Prelude.{◌≡◌, ◌++◌, ◌+◌, ◌≤◌, length, take, drop};
 ghost use Rattle.common.specs.Answer.{deliver};
 ghost use Rattle.common.specs.Answer.Answer.{value};

@@ -1,4 +1,6 @@
 // The head of a record (document 01, section 6), in a list and in an image alike.
+#![tactic(auto)]
+
 ghost use Rattle.std.specs.Prelude.{◌≡◌, ◌+◌, ◌<◌, length};
 ghost use Rattle.records.specs.Record.{word};
 ghost use Rattle.heads.specs.Head.{head_at};

@@ -1,4 +1,6 @@
 // Image check (document 01, section 6): 28 or good, for any bytes, and which lookup tables its calls need.
+#![tactic(auto)]
+
 ghost use Rattle.std.specs.Prelude.{◌≡◌, ◌+◌, ◌*◌, ◌≤◌, max, length};
 ghost use Rattle.records.specs.Decode.{shape_of, constant_in, by_shape, decode, image_with};
 ghost use Rattle.image_check.specs.Check.{check_of, digit_of, several_from, verdict_of};

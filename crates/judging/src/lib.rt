@@ -1,4 +1,6 @@
 // The checks of a cipher call that lengths alone decide, in their order (document 01, section 7).
+#![tactic(auto)]
+
 ghost use Rattle.std.specs.Prelude.{◌≡◌, ◌*◌, ◌/◌, ◌%◌, ◌+◌, ◌<◌, ◌≤◌};
 ghost use Rattle.suites.specs.Suites.{suite_of, block_bytes};
 ghost use Rattle.suite_laws.specs.Row.{Row};

@@ -1,7 +1,6 @@
 -- What the theorems would let pass, pinned by the papers' own figures (document 01, section 3).
 use mathlib.Core.Path.{◌≡◌, refl}
-use mathlib.Core.List.{List, [], ◌∷◌}
-use Prim.Native.Nat.{ℕ, ◌^◌, ◌*◌}
+use mathlib.Core.List.{[], ◌∷◌}
 use Rattle.common.specs.Choice.{pick}
 use Rattle.common.specs.Places.{tab}
 use Rattle.kalyna.specs.Round.{add_key}

@@ -1,10 +1,10 @@
 -- A state that is made row by row is read row by row.
-use mathlib.Core.Path.{◌≡◌, refl, sym, ap, ap₂, ◌∙◌, subst}
+use mathlib.Core.Path.{◌≡◌, sym, ap, ap₂, ◌∙◌, subst}
 use mathlib.Core.List.{List}
-use Prim.Native.Nat.{ℕ, ◌+◌, ◌-◌, ◌*◌, ◌/◌, ◌%◌, ◌^◌, ◌<◌, ◌≤◌}
+use Prim.Native.Nat.{ℕ, ◌+◌, ◌-◌, ◌%◌, ◌^◌, ◌<◌}
 use native.Mathlib.Nat.{mod-lt, mod-add-mod, add-mod_right, add-mod, mod-eq_of_lt, mod-mod}
 use native.Mathlib.Omega.{arith}
-use lib.ListN.{get_or, length}
+use lib.ListN.{get_or}
 use Rattle.common.specs.Places.{tab}
 use Rattle.common.proofs.Places.{get_d_tab, length_tab, tab_ext, tab_self}
 use Rattle.field.specs.Xor.{xor}
@@ -15,7 +15,7 @@ use Rattle.field.proofs.MixingLaws.{product_ext, product_xor}
 use Rattle.substitutions.specs.Tables.{sub, unsub}
 use Rattle.substitutions.proofs.Inverse.{sub_lt, unsub_lt}
 use Rattle.kalyna.specs.State.{State}
-use Rattle.kalyna.specs.Round.{add_key, sub_key, xor_key, substitute, unsubstitute, from, to, shift, unshift, mix, unmix, ssm, unssm}
+use Rattle.kalyna.specs.Round.{xor_key, substitute, unsubstitute, from, to, shift, unshift, mix, unmix, ssm}
 
 -- a state of c columns whose column j has the bytes F j 0 .. F j 7
 abbrev pub made : ℕ → (ℕ → ℕ → ℕ) → List ℕ

@@ -1,15 +1,14 @@
 -- Each layer and its inverse undo each other, and so do sealing and opening a block, for every number of columns and rounds.
-use mathlib.Core.Path.{◌≡◌, refl, sym, ap, ap₂, ◌∙◌, subst}
+use mathlib.Core.Path.{◌≡◌, refl, ap, ◌∙◌}
 use mathlib.Core.List.{List}
-use Prim.Native.Nat.{ℕ, zero, suc, ◌+◌, ◌-◌, ◌*◌, ◌/◌, ◌%◌, ◌^◌, ◌<◌, ◌≤◌}
+use Prim.Native.Nat.{ℕ, zero, suc, ◌+◌, ◌-◌, ◌%◌, ◌^◌, ◌<◌, ◌≤◌}
 use native.Mathlib.Nat.{mod-lt}
 use native.Mathlib.Omega.{arith}
 use lib.ListN.{get_or}
-use Rattle.common.specs.Places.{tab}
 use Rattle.common.proofs.Places.{get_d_tab, tab_ext, tab_self}
 use Rattle.field.specs.Xor.{xor}
-use Rattle.field.specs.Column.{byte_of, pack}
-use Rattle.field.specs.Mixing.{product, forward, backward}
+use Rattle.field.specs.Column.{byte_of}
+use Rattle.field.specs.Mixing.{forward, backward}
 use Rattle.field.proofs.XorLaws as X
 use Rattle.field.proofs.PackLaws.{byte_of_lt}
 use Rattle.field.proofs.MixingLaws.{product_ext, unmix_mix, mix_unmix}
@@ -18,7 +17,7 @@ use Rattle.substitutions.proofs.Inverse.{unsub_sub, sub_unsub}
 use Rattle.kalyna.specs.State.{State}
 use Rattle.kalyna.specs.Round.{add_key, sub_key, xor_key, substitute, unsubstitute, from, to, shift, unshift, mix, unmix, ssm, unssm}
 use Rattle.kalyna.specs.Block.{moves, rounds, unrounds, seal, unseal}
-use Rattle.kalyna.proofs.Rows.{made, Rows, row_at, made_ext, made_self, tab_state, made_state, from_lt, to_lt, from_to, to_from, sub_rows, unsub_rows, place_rows, mix_rows}
+use Rattle.kalyna.proofs.Rows.{row_at, made_ext, made_self, tab_state, made_state, from_lt, to_lt, from_to, to_from, sub_rows, unsub_rows, place_rows, mix_rows}
 
 -- ---- what each layer makes is a state
 

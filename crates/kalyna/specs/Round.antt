@@ -1,5 +1,5 @@
 -- What a round does (document 003, 6.3.2 to 6.3.6) and how it is undone (6.4.2 to 6.4.5), for any number of columns and any shift of rows.
-use Rattle.std.specs.Prelude.{List, ℕ, ◌+◌, ◌-◌, ◌*◌, ◌/◌, ◌%◌, ◌^◌, get_or}
+use Rattle.std.specs.Prelude.{List, ℕ, ◌+◌, ◌-◌, ◌%◌, ◌^◌, get_or}
 use Rattle.common.specs.Places.{tab}
 use Rattle.field.specs.Xor.{xor}
 use Rattle.field.specs.Column.{byte_of, pack}

@@ -1,1 +1,2 @@
 // Kalyna's block transformation and key schedule: definitions and their theorems. No code.
+#![tactic(auto)]

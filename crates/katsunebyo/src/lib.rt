@@ -1,4 +1,6 @@
 // The face: what a host calls; `katsunebyo_c` exports it to C. Each entry takes any bytes, lengths and numbers, gives back the number of document 01, section 7, and writes the length.
+#![tactic(auto)]
+
 ghost use Rattle.std.specs.Prelude.{◌≡◌, []};
 ghost use Rattle.common.specs.Answer.{deliver};
 ghost use Rattle.modes.specs.Cell.{Call, cell, cell_of};

@@ -1,4 +1,6 @@
 // The round keys of a key (document 003, 6.5).
+#![tactic(auto)]
+
 ghost use Rattle.std.specs.Prelude.{◌≡◌, ◌*◌, ◌%◌, ◌≤◌, length};
 ghost use Rattle.lookup.specs.Table.{seal_table};
 ghost use Rattle.words.specs.Words.{block_at};

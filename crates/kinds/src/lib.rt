@@ -1,4 +1,6 @@
 // What a call's kind tells (document 01, sections 5 and 6).
+#![tactic(auto)]
+
 ghost use Rattle.std.specs.Prelude.{◌≡◌, true};
 ghost use Rattle.tree.specs.Bounds.{of_row, arguments_of};
 ghost use Rattle.kinds.specs.Tables.{tables_for};

@@ -1,4 +1,6 @@
 // Leaves (document 01, section 6): the bytes of a constant or of a named value are handed up as a stretch of the image or of the list, uncopied.
+#![tactic(auto)]
+
 ghost use Rattle.std.specs.Prelude.{◌≡◌, take, drop};
 ghost use Rattle.listing.specs.Find.{find_in};
 ghost use Rattle.leaf.specs.Place.{place_in, place_of, placed, bytes_of};

@@ -1,1 +1,2 @@
 // The tables that cipher calls are lent: definitions alone.
+#![tactic(auto)]

@@ -1,4 +1,6 @@
 // Lists of values (document 01, section 6), walked record by record.
+#![tactic(auto)]
+
 ghost use Rattle.std.specs.Prelude.{◌≡◌, ◌+◌, ◌<◌};
 ghost use Rattle.lists.specs.Entries.{between, list_of};
 ghost use Rattle.listing.specs.Walk.{entry_at, slot_of, taken_in, is_good};

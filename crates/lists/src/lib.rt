@@ -1,1 +1,2 @@
 // Lists of values: which are good, and what they give each name. No code.
+#![tactic(auto)]

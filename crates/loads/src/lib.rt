@@ -1,4 +1,6 @@
 // Bytes read as columns, low byte first: one load for each column.
+#![tactic(auto)]
+
 ghost use Rattle.std.specs.Prelude.{◌++◌, ◌≡◌, ◌*◌, ◌≤◌, length, drop};
 ghost use Rattle.kalyna.specs.State.{columns_of};
 

@@ -3,7 +3,7 @@ use Rattle.std.specs.Prelude.{List, ℕ, ◌+◌, ◌*◌, ◌/◌, ◌%◌, get
 use Rattle.common.specs.Places.{tab}
 use Rattle.field.specs.Xor.{xor}
 use Rattle.field.specs.Field.{times}
-use Rattle.field.specs.Column.{byte_of, pack}
+use Rattle.field.specs.Column.{pack}
 use Rattle.field.specs.Mixing.{coef, forward, backward, xsum}
 use Rattle.substitutions.specs.Tables.{sub, unsub}
 

@@ -1,1 +1,2 @@
 // The rule of the lookup tables, and its laws. No code.
+#![tactic(auto)]

@@ -1,1 +1,2 @@
 // What a recipe means, and folding. No code.
+#![tactic(auto)]

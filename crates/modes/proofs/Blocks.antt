@@ -1,22 +1,20 @@
 -- Laws of blocks, and what a cipher on blocks of bytes owes.
-use mathlib.Core.Path.{◌≡◌, refl, sym, ap, ap₂, ◌∙◌, subst}
-use mathlib.Core.List.{List, [], ◌∷◌, ◌++◌}
-use Prim.Native.Nat.{ℕ, zero, suc, ◌+◌, ◌-◌, ◌*◌, ◌/◌, ◌%◌, ◌^◌, ◌<◌, ◌≤◌}
-use native.Mathlib.Nat.{mod-lt, suc-mul, div-add-mod', div-lt_iff_lt-mul, mul-le-mul_right, mul-mod_left}
-use native.Mathlib.Numerals.{add-one}
+use mathlib.Core.Path.{◌≡◌, sym, ap, ◌∙◌, subst}
+use mathlib.Core.List.{List}
+use Prim.Native.Nat.{ℕ, zero, suc, ◌+◌, ◌*◌, ◌/◌, ◌%◌, ◌<◌, ◌≤◌}
+use native.Mathlib.Nat.{mod-lt, suc-mul, div-add-mod', div-lt_iff_lt-mul, mul-le-mul_right}
 use native.Mathlib.Omega.{arith}
-use lib.Arith.{digits_div, digits_mod}
-use lib.ListN.{get_or, take, drop, length, length-drop, get_or-eq_default}
+use lib.ListN.{get_or, drop, length, length-drop, get_or-eq_default}
 use native.Mathlib.Decide.{dec_lt}
-use lib.Seq.{get_or-take, get_or-drop, length-take-le, ext_get_or}
+use lib.Seq.{get_or-take, get_or-drop, length-take-le}
 use Rattle.common.specs.Places.{tab}
 use Rattle.common.proofs.Places.{get_d_tab, length_tab, tab_ext, tab_self}
 use Rattle.field.specs.Xor.{xor}
-use Rattle.field.specs.Column.{byte_of, pack}
+use Rattle.field.specs.Column.{byte_of}
 use Rattle.field.proofs.XorLaws as X
 use Rattle.field.proofs.PackLaws.{byte_of_lt}
 use Rattle.kalyna.specs.State.{Bytes}
-use Rattle.modes.specs.Blocks.{block_at, xor_block, number_of, block_of, before}
+use Rattle.modes.specs.Blocks.{block_at, xor_block, block_of, before}
 
 -- a list of bytes
 abbrev pub OfBytes : List ℕ → Type 0

@@ -1,23 +1,20 @@
 -- Sealing and opening undo each other, on what the calls answer.
-use mathlib.Core.Bool.{Bool, true, false}
-use mathlib.Core.Path.{◌≡◌, refl, sym, ap, ap₂, ◌∙◌, subst}
-use mathlib.Core.List.{List, [], ◌∷◌}
+use mathlib.Core.Path.{◌≡◌, refl, sym, ap, ◌∙◌, subst}
 use Prim.Native.Nat.{ℕ, zero, suc, ◌+◌, ◌-◌, ◌*◌, ◌/◌, ◌%◌, ◌<◌, ◌≤◌}
 use native.Mathlib.Nat.{suc-mul, zero-mul, div-add-mod'}
 use native.Mathlib.Omega.{arith}
-use lib.ListN.{get_or, length}
+use lib.ListN.{length}
 use Rattle.common.specs.Choice.{pick}
 use Rattle.common.specs.Answer.{Value, Answer}
 use Rattle.common.specs.Answer.Answer.{value, refused}
-use Rattle.kalyna.specs.State.{Bytes}
-use Rattle.suites.specs.Suites.{suite_of, block_bytes, key_bytes}
+use Rattle.suites.specs.Suites.{suite_of, block_bytes}
 use Rattle.suites.specs.declared.Suite.{Suite}
 use Rattle.suites.specs.declared.Named.{Named}
 use Rattle.suites.specs.declared.Named.TheVariants.{Known, Unknown}
 use Rattle.modes.specs.Stream as Stream
 use Rattle.modes.specs.Chain as Chain
 use Rattle.modes.specs.Fill.{fill, unfill}
-use Rattle.modes.specs.Cell.{Call, Side, Shape, side_of, shape_of, wraps, made, sealing, opening, checked, suited, cell}
+use Rattle.modes.specs.Cell.{Call, side_of, shape_of, made, sealing, opening, checked, suited, cell}
 use Rattle.modes.proofs.Blocks.{OfBytes, Cipher}
 use Rattle.modes.proofs.Stream.{length_gamma, ctr_ctr, ofb_ofb, length_cfb, length_uncfb, uncfb_cfb, cfb_uncfb}
 use Rattle.modes.proofs.Chain.{length_cbc, length_uncbc, uncbc_cbc, cbc_uncbc}

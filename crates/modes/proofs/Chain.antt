@@ -1,20 +1,19 @@
 -- Chaining: lengths, blocks, and how it is undone.
 use mathlib.Core.Path.{◌≡◌, refl, sym, ap, ap₂, ◌∙◌, subst}
-use mathlib.Core.List.{List, [], ◌∷◌, ◌++◌}
-use Prim.Native.Nat.{ℕ, zero, suc, ◌+◌, ◌-◌, ◌*◌, ◌/◌, ◌%◌, ◌^◌, ◌<◌, ◌≤◌}
+use mathlib.Core.List.{List}
+use Prim.Native.Nat.{ℕ, zero, suc, ◌+◌, ◌*◌, ◌/◌, ◌%◌, ◌<◌, ◌≤◌}
 use native.Mathlib.Nat.{mod-lt, suc-mul, div-add-mod'}
 use native.Mathlib.Numerals.{add-one}
 use native.Mathlib.Omega.{arith}
 use lib.Arith.{digits_div, digits_mod}
-use lib.ListN.{get_or, take, drop, length}
+use lib.ListN.{get_or, length}
 use Rattle.common.specs.Places.{tab}
 use Rattle.common.proofs.Places.{get_d_tab, length_tab, tab_ext, tab_self}
 use Rattle.field.specs.Xor.{xor}
-use Rattle.field.proofs.XorLaws as X
 use Rattle.kalyna.specs.State.{Bytes}
 use Rattle.modes.specs.Blocks.{block_at, xor_block, before}
 use Rattle.modes.specs.Chain.{chained, cbc, uncbc}
-use Rattle.modes.proofs.Blocks.{OfBytes, Cipher, of_bytes, tab_bytes, block_ends, block_tab, get_d_block, get_d_place, length_block, block_bytes_lem, before_bytes, xor_bytes_lem, get_d_xor, xor_cancel, cancel}
+use Rattle.modes.proofs.Blocks.{OfBytes, Cipher, of_bytes, block_ends, block_tab, get_d_block, get_d_place, block_bytes_lem, xor_bytes_lem, get_d_xor, xor_cancel, cancel}
 
 module _ (B : ℕ) (E : List ℕ → List ℕ) (iv text : List ℕ) where
   pub length_cbc : length (cbc B E iv text) ≡ length text

@@ -1,13 +1,12 @@
 -- The counters of one CTR cell are never equal, and the two readings of the counter agree but near the top of the low half.
 use mathlib.Core.Bool.{Bool, true, false}
 use mathlib.Core.Logic.{◌↔◌}
-use mathlib.Core.Path.{◌≡◌, refl, sym, ap, ap₂, ◌∙◌, subst}
-use mathlib.Core.List.{List, [], ◌∷◌}
+use mathlib.Core.Path.{◌≡◌, refl, sym, ap, ◌∙◌, subst}
+use mathlib.Core.List.{List}
 use Prim.Native.Nat.{ℕ, zero, suc, ◌+◌, ◌-◌, ◌*◌, ◌/◌, ◌%◌, ◌^◌, ◌<◌, ◌≤◌}
-use native.Mathlib.Nat.{mod-lt, suc-mul, div-add-mod', mul-le-mul_right, div-lt_iff_lt-mul, pow-le-pow_right, mod-eq_of_lt, add_assoc, not-suc-le-zero}
-use native.Mathlib.Numerals.{add-one}
+use native.Mathlib.Nat.{suc-mul, div-add-mod', mul-le-mul_right, div-lt_iff_lt-mul, pow-le-pow_right, mod-eq_of_lt, not-suc-le-zero}
 use native.Mathlib.Omega.{arith}
-use native.Mathlib.Decide.{dec_le, dec_lt}
+use native.Mathlib.Decide.{dec_le}
 use borrow.Author.Tests.{eqb-true, eqb-false, ne_eqb}
 use lib.Arith.{digits_mod, digits_lt}
 use lib.Pow.{pow-add}
@@ -15,7 +14,7 @@ use lib.Dec.{eqb}
 use lib.ListN.{get_or, length}
 use Rattle.common.specs.Choice.{pick}
 use Rattle.common.specs.Places.{tab}
-use Rattle.common.proofs.Places.{get_d_tab, tab_ext}
+use Rattle.common.proofs.Places.{tab_ext}
 use Rattle.field.specs.Column.{pack}
 use Rattle.field.proofs.PackLaws.{pack_lt}
 use Rattle.kalyna.specs.State.{Bytes}

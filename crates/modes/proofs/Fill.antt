@@ -1,19 +1,19 @@
 -- The fill: its length and its bytes by place, and that taking it off and putting it on undo each other.
 use mathlib.Core.Bool.{Bool, true, false}
 use mathlib.Core.Path.{◌≡◌, refl, sym, ap, ap₂, ◌∙◌, subst}
-use mathlib.Core.List.{List, [], ◌∷◌, ◌++◌}
-use Prim.Native.Nat.{ℕ, zero, suc, ◌+◌, ◌-◌, ◌*◌, ◌/◌, ◌%◌, ◌<◌, ◌≤◌}
+use mathlib.Core.List.{List, ◌∷◌}
+use Prim.Native.Nat.{ℕ, zero, suc, ◌+◌, ◌-◌, ◌*◌, ◌/◌, ◌%◌, ◌<◌}
 use native.Mathlib.Nat.{mod-lt, suc-mul, mul_comm, mul-mod_left, div-add-mod', add-zero, add-suc}
 use native.Mathlib.Numerals.{add-one}
 use native.Mathlib.Omega.{arith}
 use native.Mathlib.Decide.{dec_lt}
 use borrow.Author.Tests.{eqb-true, eqb-false, ne_eqb}
-use lib.Arith.{digits_div, digits_mod}
+use lib.Arith.{digits_div}
 use lib.Dec.{eqb}
-use lib.ListN.{get_or, take, drop, length, replicate, length-append, length-replicate, get_or-append}
+use lib.ListN.{get_or, take, length, replicate, length-append, length-replicate, get_or-append}
 use lib.Seq.{get_or-append-add, get_or-append_seam, get_or-take, length-take-le, take-append_seam, ext_get_or}
 use Rattle.common.specs.Choice.{pick}
-use Rattle.common.specs.Answer.{Value, Answer}
+use Rattle.common.specs.Answer.{Value}
 use Rattle.common.specs.Answer.Answer.{value, refused}
 use Rattle.modes.specs.Fill.{fill, marked, unfill_at, unfill_from, unfill}
 use Rattle.modes.proofs.Blocks.{OfBytes}

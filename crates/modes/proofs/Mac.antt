@@ -1,16 +1,16 @@
 -- The tag: its bytes, and the comparison.
 use mathlib.Core.Bool.{Bool, true, false}
-use mathlib.Core.Path.{◌≡◌, refl, sym, ap, ap₂, ◌∙◌, subst}
+use mathlib.Core.Path.{◌≡◌, refl, sym, ap, ap₂, ◌∙◌}
 use mathlib.Core.List.{List, [], ◌∷◌}
-use Prim.Native.Nat.{ℕ, zero, suc, ◌+◌, ◌-◌, ◌*◌, ◌/◌, ◌%◌, ◌<◌, ◌≤◌}
+use Prim.Native.Nat.{ℕ}
 use native.Mathlib.Nat.{}
 use native.Mathlib.Omega.{arith}
 use borrow.Author.Tests.{eqb-true, eq-eqb}
 use lib.Dec.{eqb}
-use lib.ListN.{get_or, take, length}
+use lib.ListN.{take, length}
 use Rattle.common.specs.Choice.{pick}
 use Rattle.kalyna.specs.State.{Bytes}
-use Rattle.modes.specs.Mac.{mac_text, mac_mask, mac_of, mac, same, chk}
+use Rattle.modes.specs.Mac.{mac_of, mac, same, chk}
 
 -- the comparison is equality
 pub same_true : (x y : List ℕ) → same x y ≡ true → x ≡ y

@@ -1,31 +1,25 @@
 -- Each number is given exactly when section 7 says, past those before it in the cipher order: 1, 2, 3, 4, 6, 5, 7, 8, 13.
-use mathlib.Core.Bool.{Bool, true, false}
 use mathlib.Core.Logic.{◌↔◌}
-use mathlib.Core.Path.{◌≡◌, refl, sym, ap, ap₂, ◌∙◌, subst}
-use mathlib.Core.List.{List, [], ◌∷◌}
-use Prim.Native.Nat.{ℕ, zero, suc, ◌+◌, ◌-◌, ◌*◌, ◌/◌, ◌%◌, ◌<◌, ◌≤◌}
+use mathlib.Core.Path.{◌≡◌, refl, sym, ap, ◌∙◌, subst}
+use Prim.Native.Nat.{ℕ, ◌≤◌}
 use native.Mathlib.Nat.{}
 use native.Mathlib.Omega.{arith}
-use lib.ListN.{get_or, take, length}
+use lib.ListN.{length}
 use Rattle.common.specs.Answer.{Value, Answer}
 use Rattle.common.specs.Answer.Answer.{value, refused}
 use Rattle.suites.specs.Suites.{suite_of, block_bytes}
 use Rattle.suites.specs.declared.Suite.{Suite}
 use Rattle.suites.specs.declared.Named.{Named}
 use Rattle.suites.specs.declared.Named.TheVariants.{Known, Unknown}
-use Rattle.modes.specs.Chain as Chain
-use Rattle.modes.specs.Fill.{fill, unfill}
-use Rattle.modes.specs.Mac as Mac
-use Rattle.modes.specs.Stream as Stream
-use Rattle.modes.specs.Cell.{Call, side_of, shape_of, blocks_in, made, sealing, opening, checked, suited, cell}
-use Rattle.modes.proofs.Blocks.{OfBytes, Cipher}
-use Rattle.modes.proofs.Fill.{value_inj, not_both, unfill_either}
-use Rattle.modes.proofs.Mac.{mac_bytes, chk_right, chk_wrong, chk_one, chk_zero}
-use Rattle.modes.proofs.Counters.{Twice, never_twice, low_half, half_ctr, readings_agree}
-use Rattle.modes.proofs.Suites.{sized, no_suite, cipher_of}
+use Rattle.modes.specs.Fill.{unfill}
+use Rattle.modes.specs.Cell.{Call, shape_of, blocks_in, made, sealing, checked, suited, cell}
+use Rattle.modes.proofs.Blocks.{OfBytes}
+use Rattle.modes.proofs.Fill.{not_both, unfill_either}
+use Rattle.modes.proofs.Counters.{Twice, never_twice}
+use Rattle.modes.proofs.Suites.{sized, no_suite}
 use Rattle.modes.proofs.Checks.{Key, Iv, Some, Short, Whole, Tag, Past, each_answer, passed}
-use Rattle.modes.proofs.Cell.{Makes, Answered, answered, answers, cell_known, cell_unknown, ctr_makes, uncbp_back, cbp_back, Unfilled, unfilled}
-use Rattle.modes.proofs.Values.{Good, cell_good}
+use Rattle.modes.proofs.Cell.{Makes, answers, cell_known, ctr_makes, uncbp_back, cbp_back, Unfilled, unfilled}
+use Rattle.modes.proofs.Values.{cell_good}
 
 -- two numbers of one answer are one
 clash : {A : Type 0} (a b : ℕ) → (a ≡ b → ⊥) → refused a ≡ refused b → A

@@ -1,7 +1,7 @@
 -- The modes as code makes them: gammas and keys known by their values, the filled text block by block, the tag in its two cases.
-use mathlib.Core.Bool.{Bool, true, false}
-use mathlib.Core.Path.{◌≡◌, refl, sym, ap, ap₂, ◌∙◌, subst}
-use mathlib.Core.List.{List, [], ◌∷◌, ◌++◌}
+use mathlib.Core.Bool.{Bool}
+use mathlib.Core.Path.{◌≡◌, refl, sym, ap, ap₂, ◌∙◌}
+use mathlib.Core.List.{List}
 use Prim.Native.Nat.{ℕ, zero, suc, ◌+◌, ◌-◌, ◌*◌, ◌/◌, ◌%◌, ◌<◌, ◌≤◌}
 use native.Mathlib.Nat.{mod-lt, suc-mul, div-add-mod', mul_comm, mul-div_cancel, mul-le-mul_right}
 use native.Mathlib.Numerals.{add-one}
@@ -9,10 +9,10 @@ use native.Mathlib.Omega.{arith}
 use native.Mathlib.Decide.{dec_lt, ℕ_discrete}
 use borrow.Author.Tests.{eq-eqb, ne_eqb, lt-ltb, le-ltb}
 use lib.Dec.{eqb, ltb}
-use lib.ListN.{get_or, take, drop, length}
+use lib.ListN.{get_or, length}
 use Rattle.common.specs.Choice.{pick}
 use Rattle.common.specs.Places.{tab}
-use Rattle.common.proofs.Places.{get_d_tab, length_tab, tab_ext, tab_self}
+use Rattle.common.proofs.Places.{tab_ext, tab_self}
 use Rattle.field.specs.Xor.{xor}
 use Rattle.kalyna.specs.State.{columns_of, bytes_of}
 use Rattle.kalyna.specs.Round.{add_key, sub_key, xor_key, ssm, unssm}

@@ -1,19 +1,18 @@
 -- The stream modes: lengths, bytes by place, blocks, and how each is undone.
 use mathlib.Core.Path.{◌≡◌, refl, sym, ap, ap₂, ◌∙◌, subst}
-use mathlib.Core.List.{List, [], ◌∷◌, ◌++◌}
-use Prim.Native.Nat.{ℕ, zero, suc, ◌+◌, ◌-◌, ◌*◌, ◌/◌, ◌%◌, ◌^◌, ◌<◌, ◌≤◌, min}
-use native.Mathlib.Nat.{mod-lt, suc-mul, div-add-mod'}
+use mathlib.Core.List.{List}
+use Prim.Native.Nat.{ℕ, zero, suc, ◌+◌, ◌-◌, ◌*◌, ◌/◌, ◌<◌, ◌≤◌, min}
+use native.Mathlib.Nat.{suc-mul}
 use native.Mathlib.Omega.{arith}
 use lib.Arith.{digits_div, digits_mod}
-use lib.ListN.{get_or, take, drop, length}
+use lib.ListN.{get_or, length}
 use Rattle.common.specs.Places.{tab}
 use Rattle.common.proofs.Places.{get_d_tab, length_tab, tab_ext, tab_self}
 use Rattle.field.specs.Xor.{xor}
 use Rattle.field.proofs.XorLaws as X
-use Rattle.kalyna.specs.State.{Bytes}
-use Rattle.modes.specs.Blocks.{block_at, xor_block, number_of, block_of, before}
-use Rattle.modes.specs.Stream.{add_gamma, front, rear, counter, ctr_gamma, ctr, ofb_gamma, ofb, cfb_gamma, cfb, uncfb_gamma, uncfb}
-use Rattle.modes.proofs.Blocks.{OfBytes, Cipher, of_bytes, block_starts, block_tab, get_d_block, length_block, xor_twice}
+use Rattle.modes.specs.Blocks.{block_at, xor_block, before}
+use Rattle.modes.specs.Stream.{add_gamma, front, rear, ctr_gamma, ctr, ofb_gamma, ofb, cfb_gamma, cfb, uncfb_gamma, uncfb}
+use Rattle.modes.proofs.Blocks.{OfBytes, block_starts, block_tab, get_d_block, length_block, xor_twice}
 
 -- ---- a gamma added
 

@@ -1,19 +1,17 @@
 -- The five suites: their sizes, and that each gives a cipher on blocks of its bytes.
 use mathlib.Core.Bool.{Bool, true, false}
-use mathlib.Core.Path.{◌≡◌, refl, sym, ap, ap₂, ◌∙◌, subst}
+use mathlib.Core.Path.{◌≡◌, refl, sym, subst}
 use mathlib.Core.List.{List}
-use Prim.Native.Nat.{ℕ, zero, suc, ◌+◌, ◌-◌, ◌*◌, ◌/◌, ◌%◌, ◌<◌, ◌≤◌}
+use Prim.Native.Nat.{ℕ, ◌+◌, ◌*◌, ◌/◌, ◌≤◌}
 use native.Mathlib.Omega.{arith}
 use borrow.Author.Tests.{eqb-true, eqb-false}
 use lib.Dec.{eqb}
 use Rattle.common.specs.Choice.{pick}
-use Rattle.kalyna.specs.State.{State, Bytes, columns_of}
+use Rattle.kalyna.specs.State.{State, columns_of}
 use Rattle.kalyna.specs.Keys.{round_key}
-use Rattle.kalyna.specs.Block.{seal_bytes, unseal_bytes}
 use Rattle.kalyna.proofs.Bytes.{keys_good, unseal_seal_bytes, seal_unseal_bytes, seal_bytes_bytes, unseal_bytes_bytes}
-use Rattle.suites.specs.Suites.{suite, suite_of, block_bytes, key_bytes, key_columns}
+use Rattle.suites.specs.Suites.{suite, suite_of, block_bytes, key_columns}
 use Rattle.suites.specs.declared.Suite.{Suite}
-use Rattle.suites.specs.declared.Named.{Named}
 use Rattle.suites.specs.declared.Named.TheVariants.{Known, Unknown}
 use Rattle.modes.specs.Cell.{sealing, opening}
 use Rattle.modes.proofs.Blocks.{Cipher}

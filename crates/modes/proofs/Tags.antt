@@ -1,12 +1,11 @@
 -- What `chk` says, and the two readings of the counter, on what the calls answer.
-use mathlib.Core.Bool.{Bool, true, false}
 use mathlib.Core.Logic.{◌↔◌}
-use mathlib.Core.Path.{◌≡◌, refl, sym, ap, ap₂, ◌∙◌, subst}
-use mathlib.Core.List.{List, [], ◌∷◌}
-use Prim.Native.Nat.{ℕ, zero, suc, ◌+◌, ◌-◌, ◌*◌, ◌/◌, ◌%◌, ◌^◌, ◌<◌, ◌≤◌}
+use mathlib.Core.Path.{◌≡◌, sym, ap, ◌∙◌, subst}
+use mathlib.Core.List.{[], ◌∷◌}
+use Prim.Native.Nat.{ℕ, ◌+◌, ◌*◌, ◌/◌, ◌^◌, ◌<◌, ◌≤◌}
 use native.Mathlib.Omega.{arith}
 use lib.ListN.{take, length}
-use Rattle.common.specs.Answer.{Value, Answer}
+use Rattle.common.specs.Answer.{Value}
 use Rattle.common.specs.Answer.Answer.{value, refused}
 use Rattle.kalyna.specs.State.{Bytes}
 use Rattle.suites.specs.Suites.{suite_of, block_bytes}
@@ -15,7 +14,7 @@ use Rattle.suites.specs.declared.Named.TheVariants.{Known}
 use Rattle.modes.specs.Mac as Mac
 use Rattle.modes.specs.Stream as Stream
 use Rattle.modes.specs.Cell.{Call, side_of, shape_of, made, sealing, opening, cell}
-use Rattle.modes.proofs.Fill.{value_inj, not_both}
+use Rattle.modes.proofs.Fill.{value_inj}
 use Rattle.modes.proofs.Mac.{mac_bytes, chk_right, chk_wrong, chk_one, chk_zero}
 use Rattle.modes.proofs.Counters.{low_half, half_ctr, readings_agree}
 use Rattle.modes.proofs.Suites.{Sized, sized, cipher_of}

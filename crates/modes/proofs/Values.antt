@@ -1,24 +1,21 @@
 -- Every value that a call answers has at most 1,024 bytes, each below 256.
-use mathlib.Core.Bool.{Bool, true, false}
-use mathlib.Core.Path.{◌≡◌, refl, sym, ap, ap₂, ◌∙◌, subst}
+use mathlib.Core.Path.{◌≡◌, refl, sym, ◌∙◌, subst}
 use mathlib.Core.List.{List, [], ◌∷◌}
-use Prim.Native.Nat.{ℕ, zero, suc, ◌+◌, ◌-◌, ◌*◌, ◌/◌, ◌%◌, ◌<◌, ◌≤◌}
-use native.Mathlib.Nat.{suc-mul, div-add-mod'}
+use Prim.Native.Nat.{ℕ, zero, suc, ◌/◌, ◌%◌, ◌<◌, ◌≤◌}
+use native.Mathlib.Nat.{div-add-mod'}
 use native.Mathlib.Omega.{arith}
-use native.Mathlib.Decide.{dec_lt}
-use lib.ListN.{get_or, length, get_or-eq_default}
-use Rattle.common.specs.Answer.{Value, Answer}
-use Rattle.common.specs.Answer.Answer.{value, refused}
+use lib.ListN.{get_or, length}
+use Rattle.common.specs.Answer.{Value}
+use Rattle.common.specs.Answer.Answer.{value}
 use Rattle.field.proofs.XorLaws as X
 use Rattle.kalyna.specs.State.{Bytes}
 use Rattle.suites.specs.Suites.{suite_of, block_bytes}
 use Rattle.suites.specs.declared.Suite.{Suite}
 use Rattle.suites.specs.declared.Named.TheVariants.{Known}
-use Rattle.modes.specs.Blocks.{block_at, before}
+use Rattle.modes.specs.Blocks.{block_at}
 use Rattle.modes.specs.Stream as Stream
 use Rattle.modes.specs.Chain as Chain
 use Rattle.modes.specs.Fill.{fill}
-use Rattle.modes.specs.Mac as Mac
 use Rattle.modes.specs.Cell.{Call, side_of, shape_of, made, sealing, opening, cell}
 use Rattle.modes.proofs.Blocks.{OfBytes, Cipher, of_bytes, before_bytes}
 use Rattle.modes.proofs.Stream.{length_gamma, gamma_bytes}
@@ -27,7 +24,7 @@ use Rattle.modes.proofs.Fill.{value_inj, length_fill, fill_front}
 use Rattle.modes.proofs.Mac.{mac_bytes, chk_either}
 use Rattle.modes.proofs.Suites.{sized, cipher_of}
 use Rattle.modes.proofs.Checks.{Past}
-use Rattle.modes.proofs.Cell.{Makes, Answered, answered, ctr_makes, Unfilled, unfilled}
+use Rattle.modes.proofs.Cell.{Makes, Answered, answered, ctr_makes, unfilled}
 
 -- section 5: a value is 0 to 1,024 bytes
 pub record Good (v : Value) : Type 0 where

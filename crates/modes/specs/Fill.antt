@@ -1,5 +1,5 @@
 -- The fill (document 003, Annex Б; document 01, section 4).
-use Rattle.std.specs.Prelude.{List, [], ◌∷◌, ◌++◌, ℕ, zero, suc, ◌+◌, ◌-◌, ◌%◌, eqb, get_or, take, length, replicate}
+use Rattle.std.specs.Prelude.{List, ◌∷◌, ◌++◌, ℕ, zero, suc, ◌+◌, ◌-◌, ◌%◌, eqb, get_or, take, length, replicate}
 use Rattle.common.specs.Choice.{pick}
 use Rattle.common.specs.Answer.{Value, Answer}
 use Rattle.common.specs.Answer.Answer.{value, refused}

@@ -1,1 +1,2 @@
 // Worked examples of the modes as closed equations. No code.
+#![tactic(auto)]

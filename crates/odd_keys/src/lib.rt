@@ -1,4 +1,6 @@
 // The round keys of odd index (document 003, 6.5.3).
+#![tactic(auto)]
+
 ghost use Rattle.std.specs.Prelude.{◌≡◌, ◌+◌, ◌*◌, ◌/◌, ◌%◌, ◌≤◌, get_or, length};
 ghost use Rattle.kalyna.specs.Keys.{odd_key};
 ghost use Rattle.blocks.specs.Blocks.{Width, keys_of};

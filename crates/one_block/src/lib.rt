@@ -1,4 +1,6 @@
 // The first block of a cell, by its bytes: taken in, added to, sealed, given out.
+#![tactic(auto)]
+
 ghost use Rattle.std.specs.Prelude.{◌≡◌, ◌++◌, ◌+◌, ◌*◌, ◌≤◌, ◌<◌, take, drop, length};
 ghost use Rattle.lookup.specs.Table.{seal_table};
 ghost use Rattle.kalyna.specs.Block.{seal_bytes};

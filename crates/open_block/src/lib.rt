@@ -1,4 +1,6 @@
 // All blocks of a cell opened: a round walks over all of them, with the table of opening and with keys that are mixed back beforehand.
+#![tactic(auto)]
+
 ghost use Rattle.std.specs.Prelude.{◌≡◌, ◌+◌, ◌-◌, ◌*◌, ◌/◌, ◌%◌, ◌^◌, ◌<◌, ◌≤◌, length, slice_index};
 ghost use Rattle.substitutions.specs.Tables.{substitutions, unsubstitutions};
 ghost use Rattle.lookup.specs.Table.{open_table};

@@ -1,4 +1,6 @@
 // The last step of opening: each block shifted and substituted back, and key 0 subtracted.
+#![tactic(auto)]
+
 ghost use Rattle.std.specs.Prelude.{◌≡◌, ◌+◌, ◌-◌, ◌*◌, ◌%◌, ◌^◌, ◌<◌, ◌≤◌, [], ◌∷◌, length, slice_index};
 ghost use Rattle.field.specs.Column.{byte_of};
 ghost use Rattle.substitutions.specs.Tables.{unsubstitutions};

@@ -1,4 +1,6 @@
 // A round of opening over all blocks of a cell, straight for each width.
+#![tactic(auto)]
+
 ghost use Rattle.std.specs.Prelude.{◌+◌, ◌*◌, ◌≤◌, length};
 ghost use Rattle.words.specs.Words.{block_at, Walked};
 ghost use Rattle.rounds.specs.Rounds.{Looked, open_places, key_at, round_of};

@@ -1,4 +1,6 @@
 // The three calls that open blocks, past their checks: `unblk`, `uncbc` and `uncbp` (document 01, section 4).
+#![tactic(auto)]
+
 ghost use Rattle.std.specs.Prelude.{◌≡◌, List, ℕ, ◌+◌, ◌*◌, ◌%◌, ◌≤◌, ◌<◌, length};
 ghost use Rattle.common.specs.Answer.{deliver};
 ghost use Rattle.answers.specs.Told.{told_of};

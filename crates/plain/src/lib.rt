@@ -1,4 +1,6 @@
 // The plain calls of document 01, section 5, on separate buffers: `cat`, `xor`, `eq`, `head`.
+#![tactic(auto)]
+
 ghost use Rattle.std.specs.Prelude.{◌≡◌, ◌++◌, ◌≤◌, length, drop};
 ghost use Rattle.common.specs.Choice.{pick};
 ghost use Rattle.common.specs.Answer.{deliver};

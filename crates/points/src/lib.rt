@@ -1,1 +1,2 @@
 // The worked examples of the papers as closed equations. No code.
+#![tactic(auto)]

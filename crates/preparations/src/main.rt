@@ -3,6 +3,8 @@
 // `P NUMBER PLACE ROOM WORK LIST IMAGE TEXT`: the text prepared with the list, in an output and a work room of these lengths.
 // `R NUMBER ROOM LIST VALUE`: the image of the row before that was prepared, run on the list.
 // Each row is right only if all bytes of output and work room are as section 7 of document 01 says.
+#![tactic(auto)]
+
 ghost use Rattle.std.specs.Prelude.{◌+◌, ◌≤◌, ◌<◌, length};
 
 use answers::Told;

@@ -1,4 +1,6 @@
 // Preparing a text (document 01, sections 5 to 7): 14; 21; reading (20, 22, 23, 6); 27; 25; 26; 9. The output is written only when all is decided.
+#![tactic(auto)]
+
 ghost use Rattle.std.specs.Prelude.{◌≡◌, ◌+◌, ◌≤◌, ◌<◌, length};
 ghost use Rattle.common.specs.Answer.{deliver};
 ghost use Rattle.modes.specs.Cell.{cell_of};

@@ -6,7 +6,7 @@ use Rattle.common.specs.Choice.{pick}
 use Rattle.common.specs.Answer.{then}
 use Rattle.common.specs.Answer.Answer.{refused}
 use Rattle.tree.specs.Tree.{Tree}
-use Rattle.tree.specs.Tree.Tree.{literal, two, when}
+use Rattle.tree.specs.Tree.Tree.{literal, two}
 use Rattle.tree.specs.Names.{Binding, Running}
 use Rattle.meaning.specs.Mean.{mean}
 use Rattle.meaning.specs.Real.{Cipher, xor, real_two, real}

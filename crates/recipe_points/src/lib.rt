@@ -1,1 +1,2 @@
 // Long worked examples of preparing. No code.
+#![tactic(auto)]

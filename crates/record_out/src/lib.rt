@@ -1,4 +1,6 @@
 // Records written into a buffer from a place on (document 01, section 6).
+#![tactic(auto)]
+
 ghost use Rattle.std.specs.Prelude.{◌≡◌, [], ◌∷◌, ◌+◌, ◌/◌, ◌%◌, ◌≤◌, ◌<◌, length};
 ghost use Rattle.records.specs.Record.{record_of};
 ghost use Rattle.record_out.specs.Put.{put};

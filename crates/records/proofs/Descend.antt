@@ -5,7 +5,7 @@ use mathlib.Core.List.{List}
 use Prim.Native.Nat.{ℕ, suc, ◌+◌}
 use lib.ListN.{length, drop}
 use Rattle.tree.specs.Tree.{Tree}
-use Rattle.records.specs.Record.{Front, front_of}
+use Rattle.records.specs.Record.{front_of}
 use Rattle.records.specs.Record.Front.{front}
 use Rattle.records.specs.Decode.{shape_of, Item, then_item, then_front, filled, one_in, two_in, three_in, four_in, by_shape, decode}
 use Rattle.records.specs.Decode.Item.{item}

@@ -1,1 +1,2 @@
 // Recipes as records of an image. No code.
+#![tactic(auto)]

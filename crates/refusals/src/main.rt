@@ -2,6 +2,8 @@
 // A row of a text is `t NUMBER PLACE TEXT`; or `u NUMBER PLACE BOUND TEXT`, BOUND four figures, 1 where `#0` to `#3` have a value.
 // A row of a list or an image is P (a list for preparing), R (a list for running) or I (an image); the number due, for a good image the tables that it needs;
 // a blank; the bytes: a byte is two digits, and *hhhh after it says how often it stands there.
+#![tactic(auto)]
+
 ghost use Rattle.std.specs.Prelude.{◌+◌, ◌≤◌, ◌<◌, length};
 
 use image_check::Verdict;

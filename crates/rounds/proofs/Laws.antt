@@ -1,22 +1,18 @@
 -- Blocks stored pair by pair, and what a walk's round is in the standard's words.
-use mathlib.Core.Path.{◌≡◌, refl, sym, ap, ap₂, ◌∙◌, subst}
+use mathlib.Core.Path.{◌≡◌, sym, ap, ap₂, ◌∙◌}
 use mathlib.Core.List.{List}
-use Prim.Native.Nat.{ℕ, suc, ◌+◌, ◌-◌, ◌*◌, ◌/◌, ◌%◌, ◌<◌, ◌≤◌, ◌^◌}
-use native.Mathlib.Nat.{mod-lt, add-zero}
+use Prim.Native.Nat.{ℕ, suc, ◌+◌, ◌-◌, ◌*◌, ◌/◌, ◌%◌, ◌<◌}
 use native.Mathlib.Omega.{arith}
-use lib.ListN.{get_or, length}
+use lib.ListN.{get_or}
 use Rattle.common.specs.Places.{tab}
 use Rattle.common.proofs.Places.{get_d_tab, tab_ext}
 use Rattle.field.specs.Xor.{xor}
-use Rattle.field.specs.Column.{byte_of, pack}
-use Rattle.field.specs.Mixing.{product, forward, backward}
+use Rattle.field.specs.Column.{byte_of}
 use Rattle.field.proofs.XorLaws as X
 use Rattle.field.proofs.PackLaws.{byte_of_lt}
-use Rattle.substitutions.specs.Tables.{sub, unsub}
-use Rattle.lookup.specs.Table.{gather, seal_table, open_table}
-use Rattle.lookup.proofs.Laws.{gather_seal, gather_open, gather_ext}
-use Rattle.words.specs.Words.{word_at, put_word, put_words, block_at, Walked}
-use Rattle.words.proofs.Walks.{walk_more}
+use Rattle.lookup.specs.Table.{seal_table, open_table}
+use Rattle.lookup.proofs.Laws.{gather_seal, gather_open}
+use Rattle.words.specs.Words.{put_word, put_words}
 use Rattle.kalyna.specs.Round.{xor_key, from, to, ssm, unmix}
 use Rattle.kalyna.specs.Block.{moves}
 use Rattle.kalyna.proofs.Rows.{ssm_at, back, unmix_back_at}

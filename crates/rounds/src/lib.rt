@@ -1,4 +1,6 @@
 // A block stored with its key. A round walks over all blocks of a cell, so that independent blocks overlap in the processor.
+#![tactic(auto)]
+
 ghost use Rattle.std.specs.Prelude.{◌≡◌, ◌+◌, ◌*◌, ◌≤◌, get_or, length};
 ghost use Rattle.field.specs.Xor.{xor};
 ghost use Rattle.words.specs.Words.{put_word, put_words};

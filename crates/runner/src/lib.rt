@@ -1,4 +1,6 @@
 // Running an image (document 01, sections 5 to 7): 14; 28; 27; the meaning; 9.
+#![tactic(auto)]
+
 ghost use Rattle.std.specs.Prelude.{◌≡◌, ◌≤◌, length};
 ghost use Rattle.common.specs.Answer.{deliver};
 ghost use Rattle.recipe.specs.Outcome.{zeroed, outcome};

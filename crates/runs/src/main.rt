@@ -1,6 +1,8 @@
 // Runs images with lists and prints a tally. A row is `NUMBER ROOM WORK IMAGE LIST ANSWER`, a blank between two parts: the number due, the lengths of
 // the output and the work room, the bytes of image and list, the bytes due. A byte is two digits, and *hhhh after it says how often it stands there.
 // Output and work room are filled with a pattern before the run; every byte of both is looked at afterwards.
+#![tactic(auto)]
+
 ghost use Rattle.std.specs.Prelude.{◌≤◌, ◌<◌, length};
 
 use answers::Told;

@@ -1,4 +1,6 @@
 // A block of 2 columns that stands alone, as the encrypted IV or a chained block, sealed in machine words: it has no other block to overlap with, so its rounds keep it out of memory.
+#![tactic(auto)]
+
 ghost use Rattle.std.specs.Prelude.{◌≡◌, ◌+◌, ◌*◌, ◌≤◌, ◌<◌, get_or, length};
 ghost use Rattle.common.specs.Choice.{pick};
 ghost use Rattle.lookup.specs.Table.{seal_table};

@@ -1,4 +1,6 @@
 // The same for a block of 4 columns.
+#![tactic(auto)]
+
 ghost use Rattle.std.specs.Prelude.{◌≡◌, ◌+◌, ◌*◌, ◌≤◌, ◌<◌, get_or, length};
 ghost use Rattle.common.specs.Choice.{pick};
 ghost use Rattle.lookup.specs.Table.{seal_table};

@@ -1,4 +1,6 @@
 // All blocks of a cell sealed: rounds outermost, each a walk over the blocks.
+#![tactic(auto)]
+
 ghost use Rattle.std.specs.Prelude.{◌≡◌, ◌+◌, ◌-◌, ◌*◌, ◌≤◌, ◌<◌, length};
 ghost use Rattle.lookup.specs.Table.{seal_table};
 ghost use Rattle.words.specs.Words.{Walked};

@@ -1,4 +1,6 @@
 // The table of sealing, as bytes: a caller makes it once and lends it.
+#![tactic(auto)]
+
 ghost use Rattle.std.specs.Prelude.{◌≡◌};
 ghost use Rattle.lookup.specs.Table.{seal_table};
 

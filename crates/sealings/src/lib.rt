@@ -1,4 +1,6 @@
 // The nine calls that need no opened block, past their checks: the key schedule once, then the mode (document 01, section 4).
+#![tactic(auto)]
+
 ghost use Rattle.std.specs.Prelude.{◌≡◌, length};
 ghost use Rattle.common.specs.Answer.{deliver};
 ghost use Rattle.answers.specs.Told.{told_of};

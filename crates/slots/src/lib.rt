@@ -1,4 +1,6 @@
 // Answers in slots of the work room: definitions and laws, and one choice between two ways to say done.
+#![tactic(auto)]
+
 ghost use Rattle.std.specs.Prelude.{◌≡◌};
 ghost use Rattle.slots.specs.Slots.{settled_of};
 

@@ -1,1 +1,2 @@
 // Definitions and laws for the code of the stream modes; no code.
+#![tactic(auto)]

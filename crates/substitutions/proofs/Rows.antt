@@ -1,12 +1,11 @@
 -- Four tables laid one after another are the row of four.
-use mathlib.Core.Path.{◌≡◌, refl, sym, ap, ap₂, ◌∙◌, subst}
-use mathlib.Core.List.{List, [], ◌∷◌, ◌++◌, append_assoc}
-use Prim.Native.Nat.{ℕ, ◌+◌, ◌≤◌, ◌/◌, ◌%◌}
+use mathlib.Core.Path.{◌≡◌, refl, sym, ap, ap₂, ◌∙◌}
+use mathlib.Core.List.{List, [], ◌++◌, append_assoc}
+use Prim.Native.Nat.{ℕ, ◌+◌, ◌≤◌}
 use native.Mathlib.Omega.{arith}
-use lib.ListN.{get_or, take, drop, length, length-append, length-drop}
+use lib.ListN.{get_or, take, drop, length, length-append}
 use lib.Seq.{take_at, take_all, length-take-le}
 use Rattle.common.specs.Places.{tab}
-use Rattle.common.proofs.Places.{length_tab}
 use Rattle.substitutions.specs.Tables.{pi0, pi1, pi2, pi3, inv0, inv1, inv2, inv3, tables, inverses, sub, unsub, substitutions, unsubstitutions}
 
 -- one more table is laid behind x

@@ -1,4 +1,6 @@
 // The eight tables of document 003, Annex А, and the two rows of four that the code above reads.
+#![tactic(auto)]
+
 ghost use Rattle.std.specs.Prelude.{◌≡◌, ◌++◌, ◌+◌, ◌≤◌, get_or, take, drop, length};
 ghost use Rattle.common.specs.Places.{tab};
 ghost use Rattle.substitutions.specs.Tables.{substitutions, unsubstitutions};

@@ -1,5 +1,5 @@
 -- Sizes and the suite table (document 01, section 2; document 003, table 6.1).
-use Rattle.std.specs.Prelude.{ℕ, zero, suc, ◌/◌, eqb}
+use Rattle.std.specs.Prelude.{ℕ, ◌/◌, eqb}
 use Rattle.common.specs.Choice.{pick}
 use Rattle.suites.specs.declared.Bits.{Bits}
 use Rattle.suites.specs.declared.Bytes.{Bytes}

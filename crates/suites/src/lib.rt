@@ -1,4 +1,6 @@
 // Sizes in bits and in bytes, kept apart and joined in one place, and the suite table (document 01, section 2).
+#![tactic(auto)]
+
 ghost use Rattle.std.specs.Prelude.{◌≡◌, ◌/◌};
 ghost use Rattle.suites.specs.Suites.{bytes_in, suite_of};
 

@@ -1,4 +1,6 @@
 // Tags (document 003, section 9), and their check.
+#![tactic(auto)]
+
 ghost use Rattle.std.specs.Prelude.{◌≡◌, ◌++◌, ◌+◌, ◌-◌, ◌*◌, ◌/◌, ◌%◌, ◌≤◌, ◌<◌, eqb, take, drop, length};
 ghost use Rattle.common.specs.Choice.{pick};
 ghost use Rattle.lookup.specs.Table.{seal_table};

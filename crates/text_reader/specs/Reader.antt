@@ -1,5 +1,5 @@
 -- A text's tree in records, or a number and its place (document 01, sections 5 to 7).
-use Rattle.std.specs.Prelude.{List, [], ◌∷◌, ◌++◌, ◌≡◌, ℕ, ◌+◌, ◌-◌, length, take, drop, get_or, replicate}
+use Rattle.std.specs.Prelude.{List, [], ◌∷◌, ◌++◌, ◌≡◌, ℕ, ◌+◌, ◌-◌, length, drop, get_or, replicate}
 use Rattle.tree.specs.Tree.{Tree}
 use Rattle.tree.specs.Reading as tree
 use Rattle.tree.specs.Reading.Read.{got, wrong}

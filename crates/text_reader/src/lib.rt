@@ -1,4 +1,6 @@
 // Reads a recipe's text to its tree in records (document 01, sections 5 to 7), or to a number and its place.
+#![tactic(auto)]
+
 ghost use Rattle.std.specs.Prelude.{◌≡◌, ◌+◌, ◌*◌, ◌-◌, ◌/◌, ◌%◌, ◌≤◌, ◌<◌, length};
 ghost use Rattle.records.specs.Encode.{encode};
 ghost use Rattle.texts.specs.Reading.{literal_at, args_at, expr_at, read_text};

@@ -19,7 +19,6 @@ use Rattle.texts.specs.Spelling.{Found, row_in, suite_part, name_of, listed, spe
 use Rattle.texts.specs.Spelling.Found.{known, unknown}
 use Rattle.texts.specs.Reading.{Part, then_part, is_letter, run_of, due_at, if_due, call_in, call_of, start_of, args_at, list_at, suite_at, named_at, call_on, by_start, expr_at, end_at, read_text}
 use Rattle.texts.specs.Reading.Part.{part, bad}
-use Rattle.texts.specs.Reading.Due.{stands}
 use Rattle.texts.specs.Reading.Start.{quote, hash, dollar, sign, letter, other}
 use Rattle.texts.proofs.Standing.{stands_here, Stood, due_is_lem, if_due_lem, then_part_lem, pick_bad, no_part, run_within}
 use Rattle.texts.proofs.Table.{Good, Kinds, all_good, by_letters, arguments_of_lem, suited_kind, plain_row}

@@ -10,7 +10,7 @@ use lib.ListN.{replicate}
 use Rattle.common.specs.Choice.{pick}
 use Rattle.common.specs.Places.{tab}
 use Rattle.tree.specs.Tree.{Tree}
-use Rattle.tree.specs.Tree.Tree.{literal, bound, row, run, one, two, three, when}
+use Rattle.tree.specs.Tree.Tree.{literal, bound, row, run, two, three, when}
 use Rattle.tree.specs.Calls.{calls, plain, cipher}
 use Rattle.tree.specs.Bounds.{of_row}
 use Rattle.tree.specs.Reading.{Read}

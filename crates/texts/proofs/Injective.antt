@@ -211,7 +211,7 @@ module _ (t u : Tree) (c : CallView t) (d : CallView u) (each : EachTold c.list)
       let A : List ℕ = suite_part L.head.suited (c.kind - L.head.kind) ++ (listed 40 (spells c.list) ++ r) in
       let B : List ℕ = suite_part M.head.suited (d.kind - M.head.kind) ++ (listed 40 (spells d.list) ++ q) in
       let (letters, f) = run_same is_letter L.head.letters A M.head.letters B L.good.letters M.good.letters L.ends M.ends (sym L.text ∙ e ∙ M.text) in
-      one_row L.head M.head (same_row L.head M.head L.good M.good letters) L.of_row M.of_row f
+      one_row L.head M.head (same_row L.head M.head L.good M.good letters) L.of_row_lem M.of_row_lem f
     where
       one_row : (a b : Call) → a ≡ b → of_row a.suited a.kind c.kind ≡ true → of_row b.suited b.kind d.kind ≡ true
           → suite_part a.suited (c.kind - a.kind) ++ (listed 40 (spells c.list) ++ r) ≡ suite_part b.suited (d.kind - b.kind) ++ (listed 40 (spells d.list) ++ q)

@@ -18,7 +18,6 @@ use Rattle.tree.specs.Bounds.{depth, nodes, Bytes, Proper, Small}
 use Rattle.texts.specs.Spelling.{hex_digit, pairs, spell}
 use Rattle.texts.specs.Reading.{Part, between, is_hex, run_of, due_at, hex_value, pair_at, literal_of, literal_at, name_at}
 use Rattle.texts.specs.Reading.Part.{part, bad}
-use Rattle.texts.specs.Reading.Due.{stands}
 use Rattle.texts.proofs.Standing.{stands_here, between_is, Stood, due_is_lem, if_due_lem, pick_good, Pass, run_pass, run_within}
 
 -- what reading a tree at p says: it is spelt there, up to q, and within the bounds

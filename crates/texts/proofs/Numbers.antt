@@ -10,7 +10,7 @@ use borrow.Author.Tests.{leb-false}
 use Rattle.common.specs.Choice.{pick}
 use Rattle.common.specs.Places.{tab}
 use Rattle.tree.specs.Tree.{Tree}
-use Rattle.tree.specs.Tree.Tree.{literal, bound, row, run, one, four}
+use Rattle.tree.specs.Tree.Tree.{literal, bound, row, run}
 use Rattle.tree.specs.Calls.{Call, calls}
 use Rattle.tree.specs.Reading.Read.{got, wrong}
 use Rattle.texts.specs.Spelling.{Found}

@@ -20,7 +20,6 @@ use Rattle.texts.specs.Spelling.{pairs, row_in, suite_part, name_by, name_of, li
 use Rattle.texts.specs.Spelling.Found.{known}
 use Rattle.texts.specs.Reading.{Part, then_part, between, is_letter, run_of, if_due, call_in, call_of, start_of, args_at, list_at, suite_at, named_at, call_on, by_start, expr_at, end_at, read_text, take_text}
 use Rattle.texts.specs.Reading.Part.{part, bad}
-use Rattle.texts.specs.Reading.Due.{stands}
 use Rattle.texts.specs.Reading.Start.{letter}
 use Rattle.texts.proofs.Standing.{stands_in, stands_at, stands_next, stands_after, between_is, due_stands, Pass, run_is}
 use Rattle.texts.proofs.Table.{Good, row_of, plain_kind, cipher_kind}

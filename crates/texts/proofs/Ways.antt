@@ -12,10 +12,10 @@ use Rattle.common.specs.Choice.{pick}
 use Rattle.tree.specs.Tree.{Tree}
 use Rattle.tree.specs.Bounds.{nodes}
 use Rattle.texts.specs.Spelling.{spell, width}
-use Rattle.texts.specs.Reading.{Part, then_part, between, run_of, due_at, if_due, same, start_of, args_at, by_start, expr_at}
+use Rattle.texts.specs.Reading.{Part, then_part, between, run_of, due_at, if_due, start_of, args_at, by_start, expr_at}
 use Rattle.texts.specs.Reading.Part.{part, bad}
 use Rattle.texts.specs.Reading.Due.{stands, missing}
-use Rattle.texts.specs.Unbound.{later, first, unbound_in}
+use Rattle.texts.specs.Unbound.{later, unbound_in}
 use Rattle.texts.specs.Unbound.Place.{at, nowhere}
 use Rattle.texts.proofs.Standing.{stands_here}
 use Rattle.texts.proofs.Width.{length_spell, width_two}

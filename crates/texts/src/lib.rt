@@ -1,1 +1,2 @@
 // Recipes as text: definitions in specs/, their laws in proofs/.
+#![tactic(auto)]

@@ -25,7 +25,6 @@ use Rattle.texts.proofs.Ways.{due_end, due_other, due_here, run_step, run_stop, 
 use Rattle.texts.proofs.LeavesBack.{digit_is}
 use Rattle.texts.proofs.Table.{All, by_letters}
 use Rattle.texts.proofs.Packed.{call_packed, call_long, packed_more, packed_lt}
-use Rattle.tokens.specs.declared.Due.{Due}
 use Rattle.tokens.specs.declared.Due.TheVariants.{Stands, Missing}
 use Rattle.tokens.specs.declared.Call.{Call}
 use Rattle.tokens.specs.declared.Call.TheVariants.{Cipher, Unknown}

@@ -1,4 +1,6 @@
 // The pieces that a recipe's text is read by (document 01, sections 5 and 7): each reads its bytes once.
+#![tactic(auto)]
+
 ghost use Rattle.std.specs.Prelude.{◌≡◌, ◌≤◌, ◌<◌};
 ghost use Rattle.texts.specs.Reading.{due_at};
 ghost use Rattle.texts.specs.Packed.{call_by};

@@ -1,1 +1,2 @@
 // Trees and the table of calls: definitions. No code.
+#![tactic(auto)]

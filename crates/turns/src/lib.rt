@@ -1,4 +1,6 @@
 // How the key is turned for the round keys (document 003, 6.5.2 and 6.5.3).
+#![tactic(auto)]
+
 ghost use Rattle.std.specs.Prelude.{◌≡◌, ◌%◌, ◌≤◌, ◌<◌};
 ghost use Rattle.blocks.specs.Blocks.{Width};
 ghost use Rattle.key_laws.specs.Turns.{lane_turn};

@@ -1,4 +1,6 @@
 // The scan of a text for the first `#` without a value (document 01, section 7: 25).
+#![tactic(auto)]
+
 ghost use Rattle.std.specs.Prelude.{◌≡◌, ◌-◌, ◌<◌, length, get_or};
 ghost use Rattle.texts.specs.Unbound.{unbound_in};
 ghost use Rattle.unbound.specs.Scan.{place_is, has_of, open_at};

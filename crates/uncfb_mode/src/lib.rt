@@ -1,4 +1,6 @@
 // Section 8 of document 003, opened: all gammas are known at once, on cells of at most 1,024 bytes.
+#![tactic(auto)]
+
 ghost use Rattle.std.specs.Prelude.{◌≡◌, ◌++◌, ◌+◌, ◌-◌, ◌*◌, ◌≤◌, ◌<◌, drop, length};
 ghost use Rattle.lookup.specs.Table.{seal_table};
 ghost use Rattle.kalyna.specs.State.{columns_of};

@@ -1,4 +1,6 @@
 // One block opened, and chaining opened (document 003, 10.3): all blocks at once.
+#![tactic(auto)]
+
 ghost use Rattle.std.specs.Prelude.{◌≡◌, List, ◌++◌, ℕ, ◌+◌, ◌*◌, ◌/◌, ◌%◌, ◌≤◌, ◌<◌, drop, length};
 ghost use Rattle.common.specs.Places.{tab};
 ghost use Rattle.field.specs.Column.{byte_of};

@@ -3,6 +3,8 @@
 // `NAME: =` sums up the rows since the last sum. CALL is an entry, or `helper` or `rounds` for the key schedule. NUMBER is the answer due and WANT the
 // bytes due with it; ROOM is the output's length, SIDE an IV or a tag. Numbers and bytes are pairs of digits, *hhhh after a byte says how often it
 // stands there, and - is no byte.
+#![tactic(auto)]
+
 ghost use Rattle.std.specs.Prelude.{◌≡◌, ◌<◌, ◌≤◌, length};
 
 mod rows;

@@ -1,4 +1,6 @@
 // How a record folds, read from the top (document 01, section 5): by the runner's own evaluator with only `#` bound.
+#![tactic(auto)]
+
 ghost use Rattle.std.specs.Prelude.{◌≡◌, ◌≤◌, length, take};
 ghost use Rattle.meaning.specs.Mean.{side_of};
 ghost use Rattle.ways.specs.Ways.{Ready, Choosing, side_number, bound_by, GoesSo};

@@ -1,18 +1,15 @@
 -- Columns in pieces: what is put is read, and nothing else changes; bytes of a column are halves of its pieces.
-use mathlib.Core.Path.{◌≡◌, refl, sym, ap, ap₂, ◌∙◌, subst}
+use mathlib.Core.Path.{◌≡◌, refl, sym, ap, ap₂, ◌∙◌}
 use mathlib.Core.Logic.{◌⊎◌, ⊎_elim}
-use mathlib.Core.List.{List, [], ◌∷◌, ◌++◌}
-use Prim.Native.Nat.{ℕ, zero, suc, ◌+◌, ◌-◌, ◌*◌, ◌/◌, ◌%◌, ◌^◌, ◌<◌, ◌≤◌}
+use mathlib.Core.List.{List, [], ◌∷◌}
+use Prim.Native.Nat.{ℕ, ◌+◌, ◌*◌, ◌/◌, ◌%◌, ◌^◌, ◌<◌, ◌≤◌}
 use native.Mathlib.Nat.{div-div-eq-div-mul, div-add-mod', div-lt_iff_lt-mul, mod-eq_of_lt}
-use native.Mathlib.Numerals.{towards_suc, add-one}
-use native.Mathlib.Decide.{dec_lt, dec_le}
+use native.Mathlib.Numerals.{towards_suc}
+use native.Mathlib.Decide.{dec_lt}
 use native.Mathlib.Omega.{arith}
 use lib.ListN.{get_or, length, set, length-set}
 use lib.Seq.{sets, length-sets, get_or-set_same, get_or-set_other}
-use Rattle.common.specs.Places.{tab}
-use Rattle.common.proofs.Places.{get_d_tab, tab_ext, length_tab}
-use Rattle.field.specs.Column.{byte_of}
-use Rattle.words.specs.Words.{word_at, pieces, put_word, put_words, block_at, Walked}
+use Rattle.words.specs.Words.{word_at, pieces, put_word}
 
 -- every piece is of 16 bits
 abbrev pub Pieces : List ℕ → Type 0

@@ -2,15 +2,14 @@
 use mathlib.Core.Path.{◌≡◌, refl, sym, ap, ap₂, ◌∙◌, subst}
 use mathlib.Core.Logic.{◌⊎◌, ⊎_elim}
 use mathlib.Core.List.{List}
-use Prim.Native.Nat.{ℕ, zero, suc, ◌+◌, ◌-◌, ◌*◌, ◌/◌, ◌%◌, ◌^◌, ◌<◌, ◌≤◌}
-use native.Mathlib.Nat.{div-div-eq-div-mul, mod-lt, mul-le-mul_left, mul-suc, not-suc-le-zero, div-add-mod, div-lt_iff_lt-mul, mul_comm, le_trans}
+use Prim.Native.Nat.{ℕ, zero, suc, ◌+◌, ◌*◌, ◌/◌, ◌%◌, ◌^◌, ◌<◌, ◌≤◌}
+use native.Mathlib.Nat.{div-div-eq-div-mul, mul-le-mul_left, mul-suc, not-suc-le-zero}
 use native.Mathlib.Numerals.{add-one}
 use native.Mathlib.Decide.{dec_lt}
 use native.Mathlib.Omega.{arith}
 use lib.ListN.{get_or, length}
-use lib.Seq.{ext_get_or}
 use Rattle.common.specs.Places.{tab}
-use Rattle.common.proofs.Places.{get_d_tab, tab_ext, length_tab}
+use Rattle.common.proofs.Places.{tab_ext}
 use Rattle.field.specs.Column.{byte_of}
 use Rattle.field.proofs.PackLaws.{byte_of_zero, byte_of_suc}
 use Rattle.words.specs.Words.{word_at, put_word, put_words, block_at, Walked}

@@ -1,4 +1,6 @@
 // A cell in 16-bit pieces: one column read, one column stored.
+#![tactic(auto)]
+
 ghost use Rattle.std.specs.Prelude.{◌≡◌, ◌+◌, ◌*◌, ◌≤◌, ◌<◌, length};
 ghost use Rattle.words.specs.Words.{word_at, put_word};
 

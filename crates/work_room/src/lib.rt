@@ -1,4 +1,6 @@
 // The work room that preparing and running borrow (document 01, section 7).
+#![tactic(auto)]
+
 ghost use Rattle.std.specs.Prelude.{◌≡◌, ◌+◌, ◌-◌, ◌≤◌, min, max, length, take, drop};
 ghost use mathlib.Core.List.{◌++◌, foldr};
 ghost use Rattle.recipe.specs.Outcome.{zeroed};

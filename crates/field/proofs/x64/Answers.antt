@@ -1,0 +1,7 @@
+use mathlib.Core.Path.{refl}
+use Rattle.field.specs.Xor.{xor}
+use Rattle.field.proofs.x64.Goals as goal
+
+pub returns : goal.returns
+unfolding xor
+returns c = refl

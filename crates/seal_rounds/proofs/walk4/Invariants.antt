@@ -1,0 +1,10 @@
+use Prim.Native.Nat.{◌-◌, ◌≤◌}
+use Rattle.words.specs.Words.{Walked}
+use Rattle.rounds.specs.Rounds.{seal_places, key_at, round_of}
+use Rattle.seal_rounds.proofs.walk4.Given as goal
+
+abbrev pub invariant-loop-i : goal.invariant-loop-i
+invariant-loop-i l = (l.i ≤ l.n) × Walked 4 l.i (round_of l.t 4 (seal_places 4) (key_at 4 l.ks l.at)) l.initial.s l.s
+
+abbrev pub decreases-loop-i : goal.decreases-loop-i
+decreases-loop-i l = l.n - l.i
