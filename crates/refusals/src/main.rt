@@ -2,11 +2,15 @@
 // A row of a text is `t NUMBER PLACE TEXT`; or `u NUMBER PLACE BOUND TEXT`, BOUND four figures, 1 where `#0` to `#3` have a value.
 // A row of a list or an image is P (a list for preparing), R (a list for running) or I (an image); the number due, for a good image the tables that it needs;
 // a blank; the bytes: a byte is two digits, and *hhhh after it says how often it stands there.
-ghost use Rattle.std.specs.Prelude.{◌+◌, ◌≤◌, ◌<◌, length};
+#![tactic(auto)]
+
+ghost use Rattle.std.specs.Prelude.{◌+◌, ◌≤◌, ◌<◌, length, IfOk};
 
 use image_check::Verdict;
 use text_reader::Parsed;
 use unbound::Place;
+use std::io;
+use std::io::Read;
 
 #[derive(Drop)]
 struct Figure {
@@ -285,13 +289,11 @@ fn as_due(line: &[u8]) -> usize
     same(read_row(rest), n.value, p.value)
 }
 
-fn tell(row: usize) {
-    io::write_all(1, b"not as due: row ");
-    io::print_decimal(1, row as u64);
-    io::write_all(1, b"\n");
+fn tell(rt: &impl Print, row: usize) -> io::Result<()> {
+    println!(rt; "not as due: row {row}")
 }
 
-fn tally_of(s: &[u8]) -> Tally {
+fn tally_of(rt: &impl Print, s: &[u8]) -> io::Result<Tally> {
     let mut rows: usize = 0;
     let mut good: usize = 0;
     let mut p: usize = 0;
@@ -301,22 +303,35 @@ fn tally_of(s: &[u8]) -> Tally {
         rows += 1;
         good += g;
         if g == 0 {
-            tell(rows);
+            tell(rt, rows)?;
         }
         p = e + 1;
     }
-    Tally {
+    Ok(Tally {
         rows: rows,
         good: good,
-    }
+    })
 }
 
-fn main() {
+// The input's bytes put into a buffer until it is full or they end; gives how many.
+fn read_full(rt: &impl Input, buffer: &mut [u8]) -> io::Result<usize>
+    ensures { IfOk result (λ n. n ≤ length buffer.new) }
+{
+    let mut input = rt.reader();
+    let mut n: usize = 0;
+    while n < buffer.len() {
+        let k = input.read(&mut buffer[n..])?;
+        if k == 0 {
+            return Ok(n);
+        }
+        n += k;
+    }
+    Ok(n)
+}
+
+fn main(rt: HostRuntime) -> io::Result<()> {
     let mut buffer = [0u8; 98304];
-    let n = io::read_full(0, &mut buffer);
-    let t = tally_of(&buffer[..n]);
-    io::print_decimal(1, t.rows as u64);
-    io::write_all(1, b" rows, ");
-    io::print_decimal(1, t.good as u64);
-    io::write_all(1, b" as due\n");
+    let n = read_full(&rt, &mut buffer)?;
+    let t = tally_of(&rt, &buffer[..n])?;
+    println!(rt; "{} rows, {} as due", t.rows, t.good)
 }
