@@ -400,7 +400,13 @@ fn tell(rt: &impl Print, row: usize) -> io::Result<()> {
     println!(rt; "not as due: row {row}")
 }
 
-fn tally_of(rt: &impl Print, s: &[u8], out: &mut [u8], value: &mut [u8], work: &mut [u8]) -> io::Result<Tally> {
+fn tally_of(
+    rt: &impl Print,
+    s: &[u8],
+    out: &mut [u8],
+    value: &mut [u8],
+    work: &mut [u8],
+) -> io::Result<Tally> {
     let mut rows: usize = 0;
     let mut good: usize = 0;
     let mut size: usize = 0;

@@ -7,10 +7,10 @@
 ghost use Rattle.std.specs.Prelude.{◌+◌, ◌≤◌, ◌<◌, length, IfOk};
 
 use image_check::Verdict;
-use text_reader::Parsed;
-use unbound::Place;
 use std::io;
 use std::io::Read;
+use text_reader::Parsed;
+use unbound::Place;
 
 #[derive(Drop)]
 struct Figure {
