@@ -5,10 +5,12 @@
 // Each row is right only if all bytes of output and work room are as section 7 of document 01 says.
 #![tactic(auto)]
 
-ghost use Rattle.std.specs.Prelude.{◌+◌, ◌≤◌, ◌<◌, length};
+ghost use Rattle.std.specs.Prelude.{◌+◌, ◌≤◌, ◌<◌, length, IfOk};
 
 use answers::Told;
 use preparing::Ended;
+use std::io;
+use std::io::Read;
 
 #[derive(Drop)]
 struct Figure {
@@ -222,7 +224,7 @@ fn bytes_right(out: &[u8], due: &[u8]) -> bool {
         return false;
     }
     let n = due.len();
-    if check::same(&out[..n], due) {
+    if &out[..n] == due {
         return all_are(&out[n..], 0xA5);
     }
     false
@@ -394,13 +396,17 @@ fn row_of(line: &[u8], size: usize, out: &mut [u8], value: &mut [u8], work: &mut
     run_row(line, &out[..n], value, work)
 }
 
-fn tell(row: usize) {
-    io::write_all(1, b"not as due: row ");
-    io::print_decimal(1, row as u64);
-    io::write_all(1, b"\n");
+fn tell(rt: &impl Print, row: usize) -> io::Result<()> {
+    println!(rt; "not as due: row {row}")
 }
 
-fn tally_of(s: &[u8], out: &mut [u8], value: &mut [u8], work: &mut [u8]) -> Tally {
+fn tally_of(
+    rt: &impl Print,
+    s: &[u8],
+    out: &mut [u8],
+    value: &mut [u8],
+    work: &mut [u8],
+) -> io::Result<Tally> {
     let mut rows: usize = 0;
     let mut good: usize = 0;
     let mut size: usize = 0;
@@ -412,26 +418,39 @@ fn tally_of(s: &[u8], out: &mut [u8], value: &mut [u8], work: &mut [u8]) -> Tall
         rows += 1;
         good += g;
         if g == 0 {
-            tell(rows);
+            tell(rt, rows)?;
         }
         size = r.size;
         p = e + 1;
     }
-    Tally {
+    Ok(Tally {
         rows: rows,
         good: good,
-    }
+    })
 }
 
-fn main() {
+// The input's bytes put into a buffer until it is full or they end; gives how many.
+fn read_full(rt: &impl Input, buffer: &mut [u8]) -> io::Result<usize>
+    ensures { IfOk result (λ n. n ≤ length buffer.new) }
+{
+    let mut input = rt.reader();
+    let mut n: usize = 0;
+    while n < buffer.len() {
+        let k = input.read(&mut buffer[n..])?;
+        if k == 0 {
+            return Ok(n);
+        }
+        n += k;
+    }
+    Ok(n)
+}
+
+fn main(rt: HostRuntime) -> io::Result<()> {
     let mut buffer = [0u8; 98304];
-    let n = io::read_full(0, &mut buffer);
+    let n = read_full(&rt, &mut buffer)?;
     let mut out = [0u8; 16400];
     let mut value = [0u8; 1040];
     let mut work = [0u8; 65552];
-    let t = tally_of(&buffer[..n], &mut out, &mut value, &mut work);
-    io::print_decimal(1, t.rows as u64);
-    io::write_all(1, b" rows, ");
-    io::print_decimal(1, t.good as u64);
-    io::write_all(1, b" as due\n");
+    let t = tally_of(&rt, &buffer[..n], &mut out, &mut value, &mut work)?;
+    println!(rt; "{} rows, {} as due", t.rows, t.good)
 }

@@ -3,9 +3,11 @@
 // Output and work room are filled with a pattern before the run; every byte of both is looked at afterwards.
 #![tactic(auto)]
 
-ghost use Rattle.std.specs.Prelude.{◌≤◌, ◌<◌, length};
+ghost use Rattle.std.specs.Prelude.{◌≤◌, ◌<◌, length, IfOk};
 
 use answers::Told;
+use std::io;
+use std::io::Read;
 
 #[derive(Drop)]
 struct Tally {
@@ -311,13 +313,11 @@ fn as_due(line: &[u8]) -> usize
     0
 }
 
-fn tell(row: usize) {
-    io::write_all(1, b"not as due: row ");
-    io::print_decimal(1, row as u64);
-    io::write_all(1, b"\n");
+fn tell(rt: &impl Print, row: usize) -> io::Result<()> {
+    println!(rt; "not as due: row {row}")
 }
 
-fn tally_of(s: &[u8]) -> Tally {
+fn tally_of(rt: &impl Print, s: &[u8]) -> io::Result<Tally> {
     let mut rows: usize = 0;
     let mut good: usize = 0;
     let mut p: usize = 0;
@@ -327,22 +327,35 @@ fn tally_of(s: &[u8]) -> Tally {
         rows += 1;
         good += g;
         if g == 0 {
-            tell(rows);
+            tell(rt, rows)?;
         }
         p = e + 1;
     }
-    Tally {
+    Ok(Tally {
         rows: rows,
         good: good,
-    }
+    })
 }
 
-fn main() {
+// The input's bytes put into a buffer until it is full or they end; gives how many.
+fn read_full(rt: &impl Input, buffer: &mut [u8]) -> io::Result<usize>
+    ensures { IfOk result (λ n. n ≤ length buffer.new) }
+{
+    let mut input = rt.reader();
+    let mut n: usize = 0;
+    while n < buffer.len() {
+        let k = input.read(&mut buffer[n..])?;
+        if k == 0 {
+            return Ok(n);
+        }
+        n += k;
+    }
+    Ok(n)
+}
+
+fn main(rt: HostRuntime) -> io::Result<()> {
     let mut buffer = [0u8; 98304];
-    let n = io::read_full(0, &mut buffer);
-    let t = tally_of(&buffer[..n]);
-    io::print_decimal(1, t.rows as u64);
-    io::write_all(1, b" rows, ");
-    io::print_decimal(1, t.good as u64);
-    io::write_all(1, b" as due\n");
+    let n = read_full(&rt, &mut buffer)?;
+    let t = tally_of(&rt, &buffer[..n])?;
+    println!(rt; "{} rows, {} as due", t.rows, t.good)
 }

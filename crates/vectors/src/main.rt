@@ -5,15 +5,16 @@
 // stands there, and - is no byte.
 #![tactic(auto)]
 
-ghost use Rattle.std.specs.Prelude.{◌≡◌, ◌<◌, ◌≤◌, length};
+ghost use Rattle.std.specs.Prelude.{◌≡◌, ◌<◌, ◌≤◌, length, IfOk};
 
 mod rows;
 mod schedules;
 
-use libc::{STDIN_FILENO, STDOUT_FILENO};
+use std::io;
+use std::io::Read;
 
 // A call by its number, and what is due.
-#[derive(Drop)]
+#[derive(Clone, Copy)]
 struct Ask {
     call: usize,
     suite: u64,
@@ -73,7 +74,7 @@ fn filled(v: &[u8]) -> [u8; 2048]
     ensures { 2048 ≡ length result }
 {
     let mut b = [0xA5u8; 2048];
-    bytes::copy(v, &mut b);
+    b[..v.len()].copy_from_slice(v);
     b
 }
 
@@ -104,7 +105,7 @@ fn answers(a: Ask, key: &[u8], side: &[u8], text: &[u8], want: &[u8]) -> bool {
         return false;
     }
     let due = filled(want);
-    check::same(&out, &due)
+    out == due
 }
 
 // The call that undoes call f.
@@ -189,66 +190,67 @@ fn right(s: &[u8]) -> bool {
     right_in(s, &mut b)
 }
 
-fn say(name: &[u8], what: &[u8]) {
-    io::write_all(STDOUT_FILENO, name);
-    io::write_all(STDOUT_FILENO, what);
+fn say(rt: &impl Print, name: &[u8], what: &[u8]) -> io::Result<()> {
+    rt.write_all(name)?;
+    rt.write_all(what)
 }
 
-fn count(n: u64, what: &[u8]) {
-    io::print_decimal(STDOUT_FILENO, n);
-    io::write_all(STDOUT_FILENO, what);
+fn count(rt: &impl Print, n: u64, what: &[u8]) -> io::Result<()> {
+    print!(rt; "{n}")?;
+    rt.write_all(what)
 }
 
-fn sum(name: &[u8], right: u64, rows: u64) {
-    say(name, b": ");
-    count(right, b" of ");
-    count(rows, b" right\n");
+fn sum(rt: &impl Print, name: &[u8], right: u64, rows: u64) -> io::Result<()> {
+    say(rt, name, b": ")?;
+    count(rt, right, b" of ")?;
+    count(rt, rows, b" right\n")
 }
 
 // A row whose name ends at e and whose kind stands at k, run and told of: 1 where it is right.
-fn told(line: &[u8], e: usize, k: usize) -> u64
+fn told(rt: &impl Print, line: &[u8], e: usize, k: usize) -> io::Result<u64>
     requires { (e ≤ length line.now) × (k < length line.now) }
 {
     if !right(&line[k..]) {
-        say(line, b": WRONG\n");
-        return 0;
+        say(rt, line, b": WRONG\n")?;
+        return Ok(0);
     }
     if line[k] == b'p' {
-        say(&line[0..e], b": right\n");
+        say(rt, &line[0..e], b": right\n")?;
     }
-    1
+    Ok(1)
 }
 
 // A row run, or those before it summed up: 2 then.
-fn run(line: &[u8], right: u64, rows: u64) -> u64 {
-    let e = bytes::scan::find(line, 0, line.len(), b':');
+fn run(rt: &impl Print, line: &[u8], right: u64, rows: u64) -> io::Result<u64> {
+    let e = rows::find(line, 0, b':');
     let k = rows::after(line, e);
     if k == line.len() {
-        say(line, b": WRONG\n");
-        return 0;
+        say(rt, line, b": WRONG\n")?;
+        return Ok(0);
     }
     if line[k] != b'=' {
-        return told(line, e, k);
+        return told(rt, line, e, k);
     }
-    sum(&line[0..e], right, rows);
-    2
+    sum(rt, &line[0..e], right, rows)?;
+    Ok(2)
 }
 
-fn run_all(s: &[u8]) {
+fn run_all(rt: &impl Print, s: &[u8]) -> io::Result<()> {
     let mut right: u64 = 0;
     let mut rows: u64 = 0;
     let mut p: usize = 0;
     while p < s.len() {
-        let e = bytes::scan::find(s, p, s.len(), b'\n');
-        let r = run(&s[p..e], right, rows);
-        right = std::num::wrapping_add_u64(right, r);
-        rows = std::num::wrapping_add_u64(rows, 1);
+        let e = rows::find(s, p, b'\n');
+        let r = run(rt, &s[p..e], right, rows)?;
+        right = right.wrapping_add(r);
+        rows = rows.wrapping_add(1);
         if r == 2 {
             right = 0;
             rows = 0;
         }
         p = e + 1;
     }
+    Ok(())
 }
 
 fn room() -> [u8; 262144]
@@ -257,8 +259,24 @@ fn room() -> [u8; 262144]
     [0u8; 262144]
 }
 
-fn main() {
+// The input's bytes put into a buffer until it is full or they end; gives how many.
+fn read_full(rt: &impl Input, buffer: &mut [u8]) -> io::Result<usize>
+    ensures { IfOk result (λ n. n ≤ length buffer.new) }
+{
+    let mut input = rt.reader();
+    let mut n: usize = 0;
+    while n < buffer.len() {
+        let k = input.read(&mut buffer[n..])?;
+        if k == 0 {
+            return Ok(n);
+        }
+        n += k;
+    }
+    Ok(n)
+}
+
+fn main(rt: HostRuntime) -> io::Result<()> {
     let mut table = room();
-    let n = io::read_full(STDIN_FILENO, &mut table);
-    run_all(&table[0..n]);
+    let n = read_full(&rt, &mut table)?;
+    run_all(&rt, &table[0..n])
 }

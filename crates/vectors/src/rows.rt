@@ -8,12 +8,27 @@ struct Run {
     next: usize,
 }
 
+// Where the first b from p on stands, or the end.
+pub(crate) fn find(s: &[u8], p: usize, b: u8) -> usize
+    requires { p ≤ length s.now }
+    ensures { (p ≤ result) × (result ≤ length s.now) }
+{
+    let mut i = p;
+    while i < s.len() {
+        if s[i] == b {
+            return i;
+        }
+        i += 1;
+    }
+    i
+}
+
 // The place after the next blank, or the end.
 pub(crate) fn after(s: &[u8], p: usize) -> usize
     requires { p ≤ length s.now }
     ensures { result ≤ length s.now }
 {
-    let e = bytes::scan::find(s, p, s.len(), b' ');
+    let e = find(s, p, b' ');
     if e < s.len() {
         return e + 1;
     }
