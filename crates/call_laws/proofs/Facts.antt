@@ -1,22 +1,18 @@
 -- What being past the checks gives a call's code, and when what it wrote is what is delivered.
-use mathlib.Core.Path.{◌≡◌, refl, sym, ap, ap₂, ◌∙◌, subst}
+use mathlib.Core.Path.{◌≡◌, sym, ap, ◌∙◌, subst}
 use mathlib.Core.List.{List, ◌++◌}
-use Prim.Native.Nat.{ℕ, ◌+◌, ◌*◌, ◌/◌, ◌%◌, ◌<◌, ◌≤◌}
-use native.Mathlib.Omega.{arith}
+use Prim.Native.Nat.{ℕ, ◌+◌, ◌*◌, ◌%◌, ◌<◌, ◌≤◌}
 use lib.ListN.{length, drop}
-use Rattle.common.specs.Answer.{Value, Answer, deliver}
-use Rattle.common.specs.Answer.Answer.{value, refused}
-use Rattle.suites.specs.Suites.{suite_of, block_bytes, key_bytes, key_columns}
+use Rattle.common.specs.Answer.{Value, deliver}
+use Rattle.common.specs.Answer.Answer.{value}
+use Rattle.suites.specs.Suites.{block_bytes, key_columns}
 use Rattle.suites.specs.declared.Suite.{Suite}
-use Rattle.suites.specs.declared.Named.TheVariants.{Known}
-use Rattle.blocks.specs.Blocks.{Width}
 use Rattle.blocks.proofs.Widths.{width_le, width_pos}
-use Rattle.key_laws.specs.Turns.{Sized}
 use Rattle.suite_laws.specs.Row.{Row}
 use Rattle.suite_laws.proofs.Rows.{known_row}
-use Rattle.modes.specs.Cell.{Call, Side, Shape, side_of, shape_of, sealing, opening}
+use Rattle.modes.specs.Cell.{Call, Side, Shape, side_of, shape_of}
 use Rattle.modes.proofs.Fill.{value_inj}
-use Rattle.modes.proofs.Checks.{Past, IvFits, TextSome, TextShort, TextWhole, TagFits}
+use Rattle.modes.proofs.Checks.{IvFits, TextSome, TextShort, TextWhole, TagFits}
 use Rattle.modes.proofs.Cell.{Makes}
 use Rattle.answers.specs.Told.{told_of}
 use Rattle.answers.specs.declared.Told.TheVariants.{Done}

@@ -1,10 +1,8 @@
 -- The scheduled keys make the standard's cipher, both ways.
-use mathlib.Core.Path.{◌≡◌, refl, sym, ap, ◌∙◌, fun_ext}
+use mathlib.Core.Path.{◌≡◌, sym, fun_ext}
 use mathlib.Core.List.{List}
-use Prim.Native.Nat.{ℕ, ◌+◌, ◌*◌, ◌≤◌}
-use native.Mathlib.Omega.{arith}
+use Prim.Native.Nat.{ℕ, ◌≤◌}
 use lib.ListN.{length}
-use Rattle.common.specs.Places.{tab}
 use Rattle.common.specs.Answer.{Value}
 use Rattle.common.proofs.Places.{length_tab}
 use Rattle.kalyna.specs.State.{columns_of}

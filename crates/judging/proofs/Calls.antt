@@ -1,8 +1,7 @@
 -- The calls by their numbers (document 01, section 6).
-use mathlib.Core.Path.{◌≡◌, refl}
-use Prim.Native.Nat.{ℕ, zero, suc, ◌<◌, ◌≤◌}
+use Prim.Native.Nat.{ℕ, zero, suc, ◌≤◌}
 use native.Mathlib.Omega.{arith}
-use Rattle.modes.specs.Cell.{Call, Side, Shape, side_of, shape_of, call_of}
+use Rattle.modes.specs.Cell.{Call, call_of}
 
 -- every number stands for one of twelve
 pub by_call : (P : ℕ → Call → Type 0) → P 0 Call.blk → P 1 Call.unblk → P 2 Call.ctr → P 3 Call.ofb → P 4 Call.cfb → P 5 Call.uncfb → P 6 Call.cbc → P 7 Call.uncbc → P 8 Call.cbp → P 9 Call.uncbp → P 10 Call.mac

@@ -16,9 +16,7 @@ use Rattle.suites.specs.declared.Suite.{Suite}
 use Rattle.suites.specs.declared.Named.{Named}
 use Rattle.suites.specs.declared.Named.TheVariants.{Known, Unknown}
 use Rattle.modes.specs.Stream as Stream
-use Rattle.modes.specs.Chain as Chain
 use Rattle.modes.specs.Fill.{fill, unfill}
-use Rattle.modes.specs.Mac as Mac
 use Rattle.modes.specs.Cell.{Call, side_of, shape_of, key_wrong, iv_wrong, text_empty, text_long, text_partial, tag_wrong, wraps, made, sealing, opening, checked, cell}
 use Rattle.modes.proofs.Stream.{length_gamma, length_cfb, length_uncfb}
 use Rattle.modes.proofs.Chain.{length_cbc, length_uncbc}

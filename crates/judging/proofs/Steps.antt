@@ -1,11 +1,11 @@
 -- The order of the checks, one step at a time.
 use mathlib.Core.Bool.{Bool, true, false, not}
-use mathlib.Core.Logic.{◌⊎◌, ⊎_elim}
+use mathlib.Core.Logic.{⊎_elim}
 use mathlib.Core.Path.{◌≡◌, refl, sym, ap, subst, ◌∙◌}
 use Prim.Native.Nat.{ℕ, ◌*◌, ◌<◌, ◌≤◌, ◌%◌}
 use native.Mathlib.Omega.{arith}
-use borrow.Author.Tests.{eq-eqb, ne_eqb, leb-true, leb-false, ltb-false}
-use lib.Dec.{eqb, leb, ltb}
+use borrow.Author.Tests.{eq-eqb, ne_eqb, leb-false}
+use lib.Dec.{ltb}
 use Rattle.common.specs.Choice.{pick}
 use Rattle.suites.specs.Suites.{suite_of, block_bytes, key_bytes}
 use Rattle.suites.specs.declared.Suite.{Suite}

@@ -1,7 +1,7 @@
 -- Each check by the call's number.
-use mathlib.Core.Bool.{Bool, true, false, not}
+use mathlib.Core.Bool.{true, false, not}
 use mathlib.Core.Path.{◌≡◌, refl, sym, ap, ◌∙◌}
-use Prim.Native.Nat.{ℕ, zero, suc, ◌+◌, ◌*◌, ◌/◌, ◌%◌, ◌<◌, ◌≤◌}
+use Prim.Native.Nat.{ℕ, ◌+◌, ◌*◌, ◌/◌, ◌%◌, ◌<◌, ◌≤◌}
 use native.Mathlib.Omega.{arith}
 use native.Mathlib.Nat.{div-add-mod', mod-lt, mul_comm, suc-mul, mul-suc, mul-le-mul_left, mul-le-mul_right}
 use native.Mathlib.Numerals.{add-one}
@@ -9,7 +9,7 @@ use native.Mathlib.Decide.{dec_lt}
 use borrow.Author.Tests.{le-leb, lt-leb, lt-ltb, le-ltb}
 use lib.Dec.{eqb, leb, ltb}
 use Rattle.common.specs.Choice.{pick}
-use Rattle.modes.specs.Cell.{Call, side_of, shape_of, call_of, iv_wrong, text_empty, text_long, text_partial, tag_wrong}
+use Rattle.modes.specs.Cell.{side_of, shape_of, call_of, iv_wrong, text_empty, text_long, text_partial, tag_wrong}
 use Rattle.judging.specs.Order.{length_before}
 use Rattle.judging.proofs.Calls.{by_call}
 

@@ -1,5 +1,5 @@
 -- What lengths alone decide of a cipher call (document 01, section 7): the numbers 1, 2, 3, 4, 6, 5, 7 and, where no other can come before it, 9.
-use Rattle.std.specs.Prelude.{Bool, ℕ, ◌+◌, ◌*◌, ◌/◌, ltb}
+use Rattle.std.specs.Prelude.{ℕ, ◌+◌, ◌*◌, ◌/◌, ltb}
 use Rattle.common.specs.Choice.{pick}
 use Rattle.suites.specs.Suites.{suite_of, block_bytes}
 use Rattle.suites.specs.declared.Suite.{Suite}

@@ -1,8 +1,8 @@
 -- Every suite that the table knows is such a row.
 use mathlib.Core.Bool.{Bool, true, false}
-use mathlib.Core.Path.{◌≡◌, refl, sym, subst, ◌∙◌}
+use mathlib.Core.Path.{◌≡◌, refl, subst}
 use mathlib.Core.Logic.{◌⊎◌}
-use Prim.Native.Nat.{ℕ, ◌*◌}
+use Prim.Native.Nat.{ℕ}
 use native.Mathlib.Omega.{arith}
 use lib.Dec.{eqb}
 use Rattle.common.specs.Choice.{pick}

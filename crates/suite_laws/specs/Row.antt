@@ -1,5 +1,5 @@
 -- What every suite of the table has (document 01, section 2).
-use Rattle.std.specs.Prelude.{◌≡◌, ℕ, ◌+◌, ◌*◌, ◌%◌, ◌≤◌, ◌<◌}
+use Rattle.std.specs.Prelude.{◌≡◌, ◌+◌, ◌*◌, ◌%◌, ◌≤◌, ◌<◌}
 use Rattle.suites.specs.Suites.{block_bytes, key_bytes, key_columns}
 use Rattle.suites.specs.declared.Suite.{Suite}
 use Rattle.blocks.specs.Blocks.{Width}

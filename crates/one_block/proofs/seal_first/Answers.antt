@@ -1,0 +1,7 @@
+use native.Mathlib.Omega.{arith}
+use Rattle.one_block.proofs.Laws.{held_seal}
+use Rattle.blocks.specs.Blocks.{keys_of}
+use Rattle.one_block.proofs.seal_first.Goals as goal
+
+pub returns : goal.returns
+returns c = held_seal c.args.c c.args.t (keys_of c.args.c c.args.ks.now) c.args.s.now c.seal_blocks.new.s (λ n. omega (arith, c.slice_known-1.given n)) c.seal_blocks.ensures
