@@ -3,9 +3,9 @@ use mathlib.Core.Bool.{Bool, true, false}
 use mathlib.Core.Logic.{◌⊎◌, ⊎_elim}
 use mathlib.Core.Path.{◌≡◌, refl, sym, ap, ◌∙◌, subst}
 use mathlib.Core.List.{List}
-use Prim.Native.Nat.{ℕ, ◌≤◌}
+use Prim.Native.Nat.{ℕ}
 use native.Mathlib.Omega.{arith}
-use borrow.Author.Tests.{eq-eqb, ne_eqb}
+use borrow.Author.Tests.{ne_eqb}
 use lib.Dec.{eqb}
 use lib.ListN.{length}
 use Rattle.common.specs.Choice.{pick}
@@ -14,10 +14,9 @@ use Rattle.answers.specs.Told.{number_of, count_of, told_of}
 use Rattle.answers.specs.declared.Told.TheVariants.{Refused}
 use Rattle.lookup.specs.Table.{seal_table}
 use Rattle.lent.specs.Lent.{Lent, need_of}
-use Rattle.suites.specs.Suites.{suite_of, block_bytes}
+use Rattle.suites.specs.Suites.{block_bytes}
 use Rattle.suites.specs.declared.Suite.{Suite}
-use Rattle.suites.specs.declared.Named.TheVariants.{Known}
-use Rattle.modes.specs.Cell.{Call, call_of, made, sealing, opening, cell}
+use Rattle.modes.specs.Cell.{Call, made, sealing, opening, cell}
 use Rattle.judging.specs.Order.{judged_of}
 use Rattle.judging.specs.Cleared.{Cleared}
 use Rattle.judging.specs.declared.Judged.{Judged}

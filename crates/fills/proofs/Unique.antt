@@ -1,6 +1,5 @@
 -- What `marked` makes of a place determines the place: two ends of a text that meet the statement are equal.
 use mathlib.Core.Path.{◌≡◌, sym, ap, ◌∙◌}
-use mathlib.Core.List.{List}
 use Prim.Native.Nat.{ℕ, ◌≤◌}
 use native.Mathlib.Decide.{ℕ_discrete}
 use lib.ListN.{length, take}

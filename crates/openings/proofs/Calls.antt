@@ -3,7 +3,6 @@ use mathlib.Core.Path.{◌≡◌, refl, sym, ap, ◌∙◌}
 use Prim.Native.Nat.{ℕ, ◌≤◌}
 use native.Mathlib.Omega.{arith}
 use borrow.Author.Tests.{ne_eqb}
-use lib.Dec.{eqb}
 use Rattle.common.specs.Choice.{pick}
 use Rattle.lent.specs.Lent.{need_of}
 use Rattle.modes.specs.Cell.{Call, call_of}

@@ -1,22 +1,21 @@
 -- What each opening asks, past the checks, and that what it wrote is what is delivered.
-use mathlib.Core.Path.{◌≡◌, refl, sym, ap, ap₂, ◌∙◌, subst}
+use mathlib.Core.Path.{◌≡◌, sym, ap, ap₂, ◌∙◌, subst}
 use mathlib.Core.List.{List, ◌++◌}
 use Prim.Native.Nat.{ℕ, zero, suc, ◌+◌, ◌*◌, ◌/◌, ◌%◌, ◌<◌, ◌≤◌}
 use native.Mathlib.Nat.{div-add-mod', zero-mul, suc-mul}
 use native.Mathlib.Omega.{arith}
 use lib.ListN.{length, take, drop}
-use Rattle.common.specs.Answer.{Value, Answer, Delivered, deliver}
+use Rattle.common.specs.Answer.{Value, Delivered, deliver}
 use Rattle.common.specs.Answer.Answer.{value, refused}
 use Rattle.kalyna.specs.Block.{unseal_bytes}
 use Rattle.open_laws.specs.Opening.{Unmixed}
 use Rattle.blocks.specs.Blocks.{Width, keys_of}
-use Rattle.suites.specs.Suites.{block_bytes, key_columns}
+use Rattle.suites.specs.Suites.{block_bytes}
 use Rattle.suites.specs.declared.Suite.{Suite}
 use Rattle.suite_laws.specs.Row.{Row}
-use Rattle.key_laws.specs.Turns.{Sized}
 use Rattle.modes.specs.Chain as Chain
 use Rattle.modes.specs.Fill.{unfill, marked}
-use Rattle.modes.specs.Cell.{Call, Side, Shape, call_of, side_of, shape_of, made, sealing, opening}
+use Rattle.modes.specs.Cell.{Call, side_of, shape_of, made, sealing, opening}
 use Rattle.modes.proofs.Cell.{Makes}
 use Rattle.answers.specs.Told.{told_of}
 use Rattle.answers.specs.declared.Told.TheVariants.{Done, Refused}
@@ -26,7 +25,6 @@ use Rattle.call_laws.proofs.Same.{keys_for, keys_long, opening_is}
 use Rattle.call_laws.proofs.Facts as facts
 use lib.Seq.{take-append_seam, take-take}
 use borrow.Author.Tests.{eq-eqb, ne_eqb}
-use lib.Dec.{eqb}
 use Rattle.common.specs.Choice.{pick}
 use Rattle.handing.proofs.Giving.{refuses}
 

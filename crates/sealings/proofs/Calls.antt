@@ -1,8 +1,7 @@
 -- The calls that seal, by their numbers.
-use mathlib.Core.Path.{◌≡◌, refl, sym, ap, ◌∙◌}
-use Prim.Native.Nat.{ℕ, ◌≤◌}
+use mathlib.Core.Path.{◌≡◌, refl, ap}
+use Prim.Native.Nat.{ℕ}
 use native.Mathlib.Omega.{arith}
-use lib.Dec.{eqb}
 use Rattle.common.specs.Choice.{pick}
 use Rattle.lent.specs.Lent.{need_of}
 use Rattle.modes.specs.Cell.{Call, call_of}

@@ -1,29 +1,27 @@
 -- What each mode wrote is what is delivered.
-use mathlib.Core.Path.{◌≡◌, refl, sym, ap, ap₂, ◌∙◌, subst}
+use mathlib.Core.Path.{◌≡◌, sym, ap, ap₂, ◌∙◌}
 use mathlib.Core.List.{List, ◌++◌}
-use Prim.Native.Nat.{ℕ, ◌+◌, ◌*◌, ◌/◌, ◌%◌, ◌<◌, ◌≤◌}
+use Prim.Native.Nat.{ℕ, ◌+◌, ◌*◌, ◌/◌}
 use native.Mathlib.Omega.{arith}
 use lib.ListN.{length, drop}
-use Rattle.common.specs.Answer.{Value, Answer, deliver}
+use Rattle.common.specs.Answer.{Value, deliver}
 use Rattle.common.specs.Answer.Answer.{value}
-use Rattle.lookup.specs.Table.{seal_table}
 use Rattle.kalyna.specs.Block.{seal_bytes}
-use Rattle.blocks.specs.Blocks.{Width, keys_of}
-use Rattle.suites.specs.Suites.{block_bytes, key_columns}
+use Rattle.blocks.specs.Blocks.{keys_of}
+use Rattle.suites.specs.Suites.{block_bytes}
 use Rattle.suites.specs.declared.Suite.{Suite}
 use Rattle.suite_laws.specs.Row.{Row}
-use Rattle.key_laws.specs.Turns.{Sized}
 use Rattle.modes.specs.Stream as Stream
 use Rattle.modes.specs.Chain as Chain
 use Rattle.modes.specs.Fill.{fill}
 use Rattle.modes.specs.Mac as Mac
-use Rattle.modes.specs.Cell.{Call, Side, Shape, call_of, side_of, shape_of, made, sealing, opening}
+use Rattle.modes.specs.Cell.{Call, shape_of, made, sealing, opening}
 use Rattle.modes.proofs.Cell.{Makes, ctr_makes}
 use Rattle.answers.specs.Told.{told_of}
 use Rattle.answers.specs.declared.Told.TheVariants.{Done}
 use Rattle.judging.specs.Order.{length_before}
 use Rattle.judging.specs.Cleared.{Cleared}
-use Rattle.call_laws.proofs.Same.{keys_for, keys_long, sealing_is}
+use Rattle.call_laws.proofs.Same.{keys_for, sealing_is}
 use Rattle.call_laws.proofs.Facts as facts
 
 module _ (g : Call) (s : Suite) (key side text : Value) (out : List ℕ) (cl : Cleared g s (length key) (length side) (length text) (length out)) (ks : List ℕ) (ek : ks ≡ keys_for s key) where

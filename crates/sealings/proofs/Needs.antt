@@ -1,30 +1,20 @@
 -- What each mode asks, past the checks.
-use mathlib.Core.Path.{◌≡◌, refl, sym, ap, ap₂, ◌∙◌, subst}
-use mathlib.Core.List.{List, ◌++◌}
+use mathlib.Core.Path.{◌≡◌, ap, ◌∙◌, subst}
+use mathlib.Core.List.{List}
 use Prim.Native.Nat.{ℕ, ◌+◌, ◌*◌, ◌/◌, ◌%◌, ◌<◌, ◌≤◌}
 use native.Mathlib.Nat.{mul-le-mul_right, suc-mul, zero-mul}
 use native.Mathlib.Omega.{arith}
-use lib.ListN.{length, drop}
-use Rattle.common.specs.Answer.{Value, Answer, deliver}
-use Rattle.common.specs.Answer.Answer.{value}
-use Rattle.lookup.specs.Table.{seal_table}
-use Rattle.kalyna.specs.Block.{seal_bytes}
-use Rattle.blocks.specs.Blocks.{Width, keys_of}
-use Rattle.suites.specs.Suites.{block_bytes, key_columns}
+use lib.ListN.{length}
+use Rattle.common.specs.Answer.{Value}
+use Rattle.blocks.specs.Blocks.{Width}
+use Rattle.suites.specs.Suites.{block_bytes}
 use Rattle.suites.specs.declared.Suite.{Suite}
 use Rattle.suite_laws.specs.Row.{Row}
-use Rattle.key_laws.specs.Turns.{Sized}
-use Rattle.modes.specs.Stream as Stream
-use Rattle.modes.specs.Chain as Chain
-use Rattle.modes.specs.Fill.{fill}
-use Rattle.modes.specs.Mac as Mac
-use Rattle.modes.specs.Cell.{Call, Side, Shape, call_of, side_of, shape_of, made, sealing, opening}
+use Rattle.modes.specs.Cell.{Call, side_of, shape_of}
 use Rattle.modes.proofs.Checks.{TextShort}
-use Rattle.answers.specs.Told.{told_of}
-use Rattle.answers.specs.declared.Told.TheVariants.{Done}
 use Rattle.judging.specs.Order.{length_before}
 use Rattle.judging.specs.Cleared.{Cleared}
-use Rattle.call_laws.proofs.Same.{keys_for, keys_long, sealing_is}
+use Rattle.call_laws.proofs.Same.{keys_for, keys_long}
 use Rattle.call_laws.proofs.Facts as facts
 
 module _ (g : Call) (s : Suite) (key side text : Value) (out : List ℕ) (cl : Cleared g s (length key) (length side) (length text) (length out)) (ks : List ℕ) (ek : ks ≡ keys_for s key) where

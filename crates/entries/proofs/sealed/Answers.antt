@@ -1,0 +1,12 @@
+use Rattle.modes.specs.Cell.{call_of}
+use Rattle.calls.proofs.Ways as ways
+use Rattle.entries.proofs.sealed.Goals as goal
+
+pub seal_call-requires : goal.seal_call-requires
+seal_call-requires c = (c.table-tab.ensures, c.requires, ways.cleared (call_of c.args.f) c.args.n c.args.key.now c.args.side.now c.args.text.now c.args.out.now c.judge.result c.judge.ensures c.in-Fine.s c.in-Fine.is)
+
+pub returns-in-Refused : goal.returns-in-Refused
+returns-in-Refused c = ways.told_refused (call_of c.args.f) c.args.n c.args.key.now c.args.side.now c.args.text.now c.args.out.now c.judge.result c.judge.ensures c.in-Refused.m c.in-Refused.is
+
+pub returns-in-Fine : goal.returns-in-Fine
+returns-in-Fine c = ways.told_made (call_of c.args.f) c.args.n c.args.key.now c.args.side.now c.args.text.now c.args.out.now c.judge.result c.judge.ensures c.in-Fine.s _ c.in-Fine.is c.seal_call.ensures
