@@ -16,14 +16,7 @@ use Rattle.suites.specs.declared.Suite.{Suite}
 use Rattle.suite_laws.specs.Row.{Row}
 use Rattle.modes.specs.Cell.{sealing, opening}
 use Rattle.modes.proofs.Steps.{seal_bytes_same, unseal_bytes_same}
-
--- the round keys of a suite's key, one after another
-abbrev pub keys_for : Suite → Value → List ℕ
-keys_for s key = schedule_of s.columns (key_columns s) s.rounds (columns_of (key_columns s) key)
-
-pub keys_long : (s : Suite) (key : Value) → length (keys_for s key) ≡ 160
-unfolding schedule_of
-keys_long s key = length_tab 160 _
+pub use Rattle.call_laws.proofs.Keys.{keys_for, keys_long}
 
 module _ (s : Suite) (key : Value) (row : Row s) where
   same : (v : ℕ) → v ≤ s.rounds → round_key s.columns (key_columns s) (columns_of (key_columns s) key) v ≡ keys_of s.columns (keys_for s key) v

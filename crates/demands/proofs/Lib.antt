@@ -1,2 +1,3 @@
 -- Demand 3 with the cipher calls of the standard.
+pub mod Valued
 pub mod Real

@@ -26,32 +26,9 @@ use Rattle.modes.proofs.Values.{cell_good}
 use Rattle.recipe.specs.Prepare.{prepare_of}
 use Rattle.recipe.specs.Keeps.{Keeps}
 use Rattle.recipe.proofs.Demand.{prepared_keeps}
+use Rattle.demands.proofs.Valued.{arranged_valued}
 
 -- ---- of values the cipher calls make values
-
-empty_bytes : Bytes []
-empty_bytes i = go i
-  where
-    go : (i : ℕ) → get_or {A = ℕ} [] i 0 < 256
-    go zero = omega arith
-    go (suc i) = omega arith
-
--- argument i is a list of bytes; a missing one is empty
-at_bytes : (args : List Value) → AllValues args → (i : ℕ) → Bytes (get_or args i [])
-unfolding AllValues
-at_bytes [] h zero = empty_bytes
-at_bytes [] h (suc i) = empty_bytes
-at_bytes (a ∷ args) h zero = h.0.bytes
-at_bytes (a ∷ args) h (suc i) = at_bytes args h.1 i
-
-good : (f : Call) (n : ℕ) (key side text v : Value) → Bytes side → Bytes text → cell f n key side text ≡ value v → IsValue v
-good f n key side text v bs bt e = let g = cell_good f n key side text v bs bt e in record { short = g.small; bytes = g.bytes }
-
-arranged_valued : (s : Side) (f : Call) (n : ℕ) (args : List Value) → AllValues args → Valued (arranged s f n args)
-unfolding arranged
-arranged_valued Side.none f n args h v e = good f n (get_or args 0 []) [] (get_or args 1 []) v empty_bytes (at_bytes args h 1) e
-arranged_valued Side.iv f n args h v e = good f n (get_or args 0 []) (get_or args 1 []) (get_or args 2 []) v (at_bytes args h 1) (at_bytes args h 2) e
-arranged_valued Side.tag f n args h v e = good f n (get_or args 0 []) (get_or args 1 []) (get_or args 2 []) v (at_bytes args h 1) (at_bytes args h 2) e
 
 pub cell_valued : CipherValued cell_of
 unfolding cell_of

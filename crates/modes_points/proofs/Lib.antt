@@ -1,3 +1,4 @@
 -- Worked examples as closed equations.
 pub mod Sharing
+pub mod Gamma
 pub mod Examples
