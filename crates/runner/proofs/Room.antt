@@ -1,7 +1,7 @@
 -- The work room afterwards, and the whole outcome.
 use mathlib.Core.Path.{◌≡◌, ap, ap₂, sym, ◌∙◌}
 use mathlib.Core.List.{List, ◌++◌}
-use Prim.Native.Nat.{ℕ, ◌+◌, ◌≤◌, ◌<◌}
+use Prim.Native.Nat.{ℕ, ◌≤◌, ◌<◌}
 use lib.ListN.{length, drop, replicate}
 use lib.Seq.{drop_at}
 use borrow.Author.Tests.{lt-ltb, le-ltb}

@@ -3,7 +3,6 @@ use mathlib.Core.Path.{◌≡◌, ap, sym, ◌∙◌, subst}
 use mathlib.Core.List.{List}
 use Prim.Native.Nat.{ℕ, ◌+◌, ◌≤◌}
 use native.Mathlib.Omega.{arith}
-use Rattle.tree.specs.Tree.Tree.{when}
 use Rattle.tree.specs.Bounds.{arguments_of, when_kind, Bytes}
 use Rattle.tree.specs.Names.{idle}
 use Rattle.meaning.specs.Mean.{mean}
