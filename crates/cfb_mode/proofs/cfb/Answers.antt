@@ -8,10 +8,6 @@ use Rattle.stream_laws.proofs.Widths as widths
 use Rattle.stream_laws.proofs.Ends as ends
 use Rattle.cfb_mode.proofs.cfb.Goals as goal
 
--- ?? no goal for nonzero-div-q
--- div-q : tie.Need-nonzero-div-q
--- div-q c = omega (arith, width_pos c.before.before.before.before.args.c c.before.before.before.before.requires.1, width_le c.before.before.before.before.args.c c.before.before.before.before.requires.1)
-
 pub overflow_mul-at : goal.overflow_mul-at
 overflow_mul-at c = omega (arith, widths.whole_le (length c.args.text.now) (8 * c.args.c), c.requires.6)
 

@@ -14,10 +14,6 @@ take_in-requires c = (omega (arith, width_le c.args.c c.requires.1), omega (arit
 pub overflow_mul-c : goal.overflow_mul-c
 overflow_mul-c c = omega (arith, width_le c.args.c c.requires.1)
 
--- ?? no goal for nonzero-div-chain-out
--- div-chain-out : tie.Need-nonzero-div-chain-out
--- div-chain-out c = omega (arith, width_lt c.before.before.before.before.before.before.before.before.args.c c.before.before.before.before.before.before.before.before.requires.1)
-
 pub chain_out-requires : goal.chain_out-requires
 chain_out-requires c = (c.requires.0, c.requires.1, c.requires.2, c.requires.3, c.requires.4, omega (arith, width_le c.args.c c.requires.1, c.take_in.auto.s), some_blocks (8 * c.args.c) (length c.args.text.now), omega (arith, some_blocks (8 * c.args.c) (length c.args.text.now), c.requires.7))
 

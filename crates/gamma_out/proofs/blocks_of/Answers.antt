@@ -16,10 +16,6 @@ overflow_add-result c = omega (arith, width_pos c.args.c c.requires.0, width_le 
 pub overflow_mul-result-2 : goal.overflow_mul-result-2
 overflow_mul-result-2 c = omega (arith, width_pos c.args.c c.requires.0, width_le c.args.c c.requires.0)
 
--- ?? no goal for nonzero-div-result
--- div-result : tie.Need-nonzero-div-result
--- div-result c = omega (arith, width_pos c.args.c c.requires.0, width_le c.args.c c.requires.0)
-
 pub returns : goal.returns
 unfolding blocks_in
 returns c = refl

@@ -15,10 +15,6 @@ overflow_add-d c = omega (arith, place_room c.args.image.now c.args.at c.args.li
 pub bounds-image-at : goal.bounds-image-at
 bounds-image-at c = omega (arith, place_room c.args.image.now c.args.at c.args.list.now c.head_at.result c.head_at.ensures c.in-Record.k c.in-Record.n c.in-Record.is, c.if-n-eq1.true)
 
--- ?? no goal for overflow-cast-d
--- cast-d : tie.Need-overflow-cast-d
--- cast-d c = omega (arith, c.shared-slice-known3.given (c.before.before.before.before.before.before.before.before.before.args.at + 4))
-
 pub overflow_add-d-then-k-eq2 : goal.overflow_add-d-then-k-eq2
 overflow_add-d-then-k-eq2 c = omega (arith, c.type_inv.image (c.args.at + 4))
 

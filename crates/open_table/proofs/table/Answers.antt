@@ -6,7 +6,7 @@ use Rattle.substitutions.specs.Tables.{inv0, inv1, inv2, inv3}
 use Rattle.lookup.proofs.Laid.{doubles, weigh, products, row, laid, laid_open}
 use Rattle.open_table.proofs.table.Goals as goal
 
--- ?? -- The table of the code is the table laid entry by entry, which antt computes.
+-- The table of the code is the table laid entry by entry, which antt computes.
 
 pub returns : goal.returns
 unfolding laid row products weigh doubles double xor coef tab inv0 inv1 inv2 inv3

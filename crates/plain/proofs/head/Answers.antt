@@ -8,10 +8,6 @@ use Rattle.plain.proofs.head.Goals as goal
 pub returns-then-n-ne1 : goal.returns-then-n-ne1
 returns-then-n-ne1 c = head_count c.args.n.now c.args.a.now c.args.out.now c.if-n-ne1.true
 
--- ?? no goal for overflow-cast-k
--- cast-k : tie.Need-overflow-cast-k
--- cast-k c = omega (arith, c.shared-slice-known3.given 0)
-
 pub returns-then-a-k : goal.returns-then-a-k
 returns-then-a-k c = head_short c.args.n.now c.args.a.now c.args.out.now c.if-n-ne1.false c.if-a-k.true
 

@@ -9,10 +9,6 @@ use Rattle.tags.proofs.Laws.{last_whole, last_begun, added_whole, added_filled}
 use Rattle.blocks.proofs.Widths.{width_lt}
 use Rattle.tags.proofs.add_last.Goals as goal
 
--- ?? no goal for nonzero-rem-if1
--- rem-if1 : tie.Need-nonzero-rem-if1
--- rem-if1 c = omega (arith, width_lt c.before.before.args.c c.before.before.requires.0)
-
 pub add_in-requires : goal.add_in-requires
 add_in-requires c = (c.requires.1, omega (arith, c.requires.3, last_whole (8 * c.args.c) c.args.text.now (width_lt c.args.c c.requires.0) c.requires.2 c.if-text-c-eq0.true, suc-mul ((length c.args.text.now - 1) / (8 * c.args.c)) (8 * c.args.c)))
 

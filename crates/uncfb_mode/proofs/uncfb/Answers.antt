@@ -15,10 +15,6 @@ use Rattle.uncfb_mode.proofs.uncfb.Goals as goal
 pub uncfb_gammas-requires : goal.uncfb_gammas-requires
 uncfb_gammas-requires c = (c.requires.0, c.requires.1, c.requires.2, c.requires.3, c.requires.4, c.requires.5, subst (λ n. 0 < n) (sym c.blocks_of.ensures) (widths.blocks_whole (length c.args.text.now) c.args.c c.requires.1 c.requires.8).0, subst (λ n. (n - 1) * (8 * c.args.c) ≤ (length c.args.text.now)) (sym c.blocks_of.ensures) (widths.blocks_whole (length c.args.text.now) c.args.c c.requires.1 c.requires.8).1, subst (λ n. 4 * (c.args.c * n) ≤ 512) (sym c.blocks_of.ensures) (widths.blocks_fit (length c.args.text.now) c.args.c c.requires.1 c.requires.6))
 
--- ?? no goal for nonzero-div-at
--- div-at : tie.Need-nonzero-div-at
--- div-at c = omega (arith, width_pos c.before.before.before.before.before.before.before.before.args.c c.before.before.before.before.before.before.before.before.requires.1, width_le c.before.before.before.before.before.before.before.before.args.c c.before.before.before.before.before.before.before.before.requires.1)
-
 pub overflow_mul-at : goal.overflow_mul-at
 overflow_mul-at c = omega (arith, widths.whole_le (length c.args.text.now) (8 * c.args.c), c.requires.6)
 
