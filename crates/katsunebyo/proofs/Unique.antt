@@ -1,5 +1,5 @@
 -- What an entry gives back is determined: number, length and every output byte. One statement serves the twelve, whose contracts are equations with what the cell delivers.
-use mathlib.Core.Path.{◌≡◌, ap, sym, ◌∙◌}
+use mathlib.Core.Path.{◌≡◌, ap}
 use mathlib.Core.List.{List}
 use Prim.Native.Nat.{ℕ}
 use Rattle.common.specs.Answer.{Value, Delivered, deliver}

@@ -1,12 +1,12 @@
 -- Wrong libraries (document 01, section 9), each at an input that rules it out: suite 1, a key and an IV of zeros, `ctr` on one block.
 use mathlib.Core.Path.{◌≡◌, refl, sym, ap, ◌∙◌, subst}
 use mathlib.Core.List.{List, [], ◌∷◌, ◌++◌, append-nil}
-use Prim.Native.Nat.{ℕ, ◌≤◌}
+use Prim.Native.Nat.{ℕ}
 use native.Mathlib.Omega.{arith}
 use lib.ListN.{length, get_or, drop, replicate}
 use lib.Seq.{drop-length}
 use Rattle.common.specs.Choice.{pick}
-use Rattle.common.specs.Answer.{Value, Delivered, deliver}
+use Rattle.common.specs.Answer.{Value, deliver}
 use Rattle.common.specs.Answer.Answer.{value}
 use Rattle.suites.specs.Suites.{suite, suite_of}
 use Rattle.suites.specs.declared.Suite.{Suite}
@@ -14,7 +14,7 @@ use Rattle.suites.specs.declared.Named.TheVariants.{Known}
 use Rattle.modes.specs.Cell.{Call, side_of, shape_of, cell}
 use Rattle.modes.proofs.Fill.{value_inj}
 use Rattle.modes.proofs.Checks.{Past}
-use Rattle.modes.proofs.Cell.{Makes, Answered, answers, ctr_back}
+use Rattle.modes.proofs.Cell.{Makes, answers, ctr_back}
 use Rattle.judging.specs.Order.{length_before}
 use Rattle.judging.proofs.Joins.{Long, made_long, deliver_fits}
 use Rattle.entries.specs.Seen.{seen}
