@@ -16,7 +16,7 @@ HEAD = """# What was renamed
 
 Each definition, constructor, field and lemma whose name was turned to today's spelling, as it was and as it is, file by file: specs/ and the files of lemmas in proofs/.
 Made by `tools/port_names.py`; `port.py` and `tools/respell.py` did the renaming. A file that is not named here kept all of its names, and no name moved to another
-file or crate by it. A lemma that would have had the name of a definition ends in `_lem`.
+file or crate by it. What would have fallen together with another name ends in `_lem`.
 """
 
 

@@ -1,50 +1,31 @@
 -- Wrong preparers (document 01, section 9) fail the statement of `prepare` at these inputs.
 use mathlib.Core.Path.{◌≡◌, refl, ap, ◌∙◌}
-use mathlib.Core.List.{List, [], ◌∷◌, ◌++◌}
+use mathlib.Core.List.{List, [], ◌∷◌}
 use Prim.Native.Nat.{ℕ, ◌≤◌}
 use native.Mathlib.Omega.{arith}
-use lib.ListN.{length, get_or, drop}
-use borrow.Author.Tests.{le-leb, le-ltb}
-use Rattle.common.specs.Answer.{deliver}
-use Rattle.common.proofs.Choices.{pick_true, pick_false}
+use lib.ListN.{length, get_or}
 use Rattle.modes.specs.Cell.{cell_of}
 use Rattle.texts.proofs.Examples.{text}
-use Rattle.recipe.specs.Outcome.{Outcome, outcome, cleared, in_room}
-use Rattle.recipe.specs.Prepare.{answer_of, place_of, prepared_of, prepare_of}
+use Rattle.recipe.specs.Outcome.{Outcome}
+use Rattle.recipe.specs.Prepare.{prepared_of, prepare_of}
 use Rattle.recipe.specs.Prepare.Prepared.{made}
-use Rattle.recipe.proofs.Points.{p8}
 use Rattle.recipe.proofs.Computing.{prepares}
+use Rattle.prepared_runs.proofs.P8.{made_outcome, with42, at_p8}
 use Rattle.preparing.specs.declared.Ended.{Ended}
 use Rattle.preparing.specs.declared.Ended.TheVariants.{Done, Refused}
 use Rattle.preparing.specs.Ended.{count_of, outcome_of}
 
--- an image that fits the output, in a work room that is large enough
-made_outcome : (s list out work v : List ℕ) → prepared_of cell_of s list ≡ made v → 65536 ≤ length work → length v ≤ length out
-    → prepare_of cell_of s list out work ≡ record { number = 0; count = length v; place = 0; out = v ++ drop (length v) out; work = cleared work }
-unfolding prepare_of in_room outcome answer_of place_of deliver
-made_outcome s list out work v e h g =
-    pick_false _ _ _ (le-ltb (length work) 65536 h)
-    ∙ ap (λ P. outcome (deliver (answer_of P) out) (place_of P) (cleared work)) e
-    ∙ ap (λ d. outcome d 0 (cleared work)) (pick_true _ _ _ (le-leb (length v) (length out) g))
-
--- the list that gives `#0` = 42
-abbrev with42 : List ℕ
-with42 = 0x01 ∷ 0x00 ∷ 0x00 ∷ 0x02 ∷ 0x42 ∷ []
-
 -- any output room of 16 bytes at least, any work room that is large enough
 module _ (out work : List ℕ) (ho : 16 ≤ length out) (hw : 65536 ≤ length work) where
-  at_p8 : prepare_of cell_of (text "cat('41',#0)") with42 out work ≡ record { number = 0; count = 6; place = 0; out = (0x02 ∷ 0x00 ∷ 0x01 ∷ 0x00 ∷ 0x41 ∷ 0x42 ∷ []) ++ drop 6 out; work = cleared work }
-  at_p8 = made_outcome (text "cat('41',#0)") with42 out work (0x02 ∷ 0x00 ∷ 0x01 ∷ 0x00 ∷ 0x41 ∷ 0x42 ∷ []) (p8 cell_of) hw (omega arith)
-
   -- one that always refuses, whatever number and place it gives
   pub always_refuses : (m p : ℕ) (o w : List ℕ) → outcome_of (Refused m p) o w ≡ prepare_of cell_of (text "cat('41',#0)") with42 out work → ⊥
   unfolding outcome_of count_of
-  always_refuses m p o w e = let c : ◌≡◌ {A = ℕ} 0 6 = ap (λ (x : Outcome). x.count) (e ∙ at_p8) in omega arith
+  always_refuses m p o w e = let c : ◌≡◌ {A = ℕ} 0 6 = ap (λ (x : Outcome). x.count) (e ∙ at_p8 out work ho hw) in omega arith
 
   -- a made-up length: only 6 is the image's
   pub made_up_length : (n : ℕ) (o w : List ℕ) → outcome_of (Done n) o w ≡ prepare_of cell_of (text "cat('41',#0)") with42 out work → n ≡ 6
   unfolding outcome_of count_of
-  made_up_length n o w e = ap (λ (x : Outcome). x.count) (e ∙ at_p8)
+  made_up_length n o w e = ap (λ (x : Outcome). x.count) (e ∙ at_p8 out work ho hw)
 
   -- one that folds nothing answers the call over both constants, 14 bytes
   pub folds_nothing : (o w : List ℕ) → outcome_of (Done 14) o w ≡ prepare_of cell_of (text "cat('41',#0)") with42 out work → ⊥
@@ -54,7 +35,7 @@ module _ (out work : List ℕ) (ho : 16 ≤ length out) (hw : 65536 ≤ length w
   pub touches_nothing : (r : Ended) (w : List ℕ) → get_or out 0 0 ≡ 0 → outcome_of r out w ≡ prepare_of cell_of (text "cat('41',#0)") with42 out work → ⊥
   unfolding outcome_of
   touches_nothing r w z e =
-      let b : get_or out 0 0 ≡ 2 = ap (λ (x : Outcome). get_or x.out 0 0) (e ∙ at_p8) in
+      let b : get_or out 0 0 ≡ 2 = ap (λ (x : Outcome). get_or x.out 0 0) (e ∙ at_p8 out work ho hw) in
       omega arith
 
   of_41 : prepared_of cell_of (text "'41'") [] ≡ made (0x01 ∷ 0x00 ∷ 0x01 ∷ 0x00 ∷ 0x41 ∷ [])
