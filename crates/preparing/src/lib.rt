@@ -25,6 +25,7 @@ pub enum Ended {
 }
 
 // 26, then 9, by the size; then the bytes.
+#[tactic(auto, using(crate::proofs::Giving::gives_long))]
 fn fold_in<'a>(
     records: &'a [u8],
     list: &'a [u8],

@@ -9,12 +9,6 @@ seal2-requires c = (c.requires.0, c.requires.2, (room_at c.args.c 2 c.args.n c.a
 pub returns-then-c-eq2 : goal.returns-then-c-eq2
 returns-then-c-eq2 c = seal_at c.args.c 2 c.args.n c.args.t c.args.ks.now c.args.s.now c.seal2.new.s c.if-c-eq2.true c.seal2.ensures
 
-pub seal4-requires : goal.seal4-requires
-seal4-requires c = (c.requires.0, c.requires.2, (room_at c.args.c 4 c.args.n c.args.t (length c.args.s.now) (length c.args.ks.now) c.if-c-eq4.true c.requires.3 c.requires.4).0, (room_at c.args.c 4 c.args.n c.args.t (length c.args.s.now) (length c.args.ks.now) c.if-c-eq4.true c.requires.3 c.requires.4).1, c.requires.5)
-
-pub returns-then-c-eq4 : goal.returns-then-c-eq4
-returns-then-c-eq4 c = seal_at c.args.c 4 c.args.n c.args.t c.args.ks.now c.args.s.now c.seal4.new.s c.if-c-eq4.true c.seal4.ensures
-
 pub seal8-requires : goal.seal8-requires
 seal8-requires c = (c.requires.0, c.requires.2, (room_at c.args.c 8 c.args.n c.args.t (length c.args.s.now) (length c.args.ks.now) (eight_is c.args.c c.requires.1 c.if-c-eq2.false c.if-c-eq4.false) c.requires.3 c.requires.4).0, (room_at c.args.c 8 c.args.n c.args.t (length c.args.s.now) (length c.args.ks.now) (eight_is c.args.c c.requires.1 c.if-c-eq2.false c.if-c-eq4.false) c.requires.3 c.requires.4).1, c.requires.5)
 
