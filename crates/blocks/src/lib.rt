@@ -6,16 +6,14 @@ ghost use Rattle.words.specs.Words.{word_at, put_words, Walked};
 ghost use Rattle.kalyna.specs.Round.{add_key, sub_key};
 ghost use Rattle.rounds.specs.Rounds.{key_at};
 
-// One block, whose first column is w.
+// One block, whose first column is w. Adding and subtracting stay apart: a trait or a closure for either would take an impl or a clause as long as these loops.
 fn add_block(s: &mut [u16], w: usize, c: usize, ks: &[u64], at: usize)
     requires { (4 * (w + c) ≤ length s.old) × (at + c ≤ length ks.now) }
     ensures { s.new ≡ put_words s.old w c (λ j. (word_at s.old (w + j) + slice_index ks.now (at + j)) % 2 ^ 64) }
 {
-    let mut j: usize = 0;
-    while j < c {
+    for j in 0..c {
         let x = words::word_at(s, w + j);
         words::put_word(s, w + j, std::num::wrapping_add_u64(x, ks[at + j]));
-        j += 1;
     }
 }
 
@@ -23,11 +21,9 @@ fn sub_block(s: &mut [u16], w: usize, c: usize, ks: &[u64], at: usize)
     requires { (4 * (w + c) ≤ length s.old) × (at + c ≤ length ks.now) }
     ensures { s.new ≡ put_words s.old w c (λ j. (word_at s.old (w + j) + 2 ^ 64 - slice_index ks.now (at + j) % 2 ^ 64) % 2 ^ 64) }
 {
-    let mut j: usize = 0;
-    while j < c {
+    for j in 0..c {
         let x = words::word_at(s, w + j);
         words::put_word(s, w + j, std::num::wrapping_sub_u64(x, ks[at + j]));
-        j += 1;
     }
 }
 
@@ -36,12 +32,8 @@ pub fn add_keys(s: &mut [u16], n: usize, c: usize, ks: &[u64], at: usize)
     requires { (4 * (c * n) ≤ length s.old) × (at + c ≤ length ks.now) }
     ensures { Walked c n (add_key c (key_at c ks.now at)) s.old s.new }
 {
-    let mut i: usize = 0;
-    let mut w: usize = 0;
-    while i < n {
-        add_block(s, w, c, ks, at);
-        w += c;
-        i += 1;
+    for i in 0..n {
+        add_block(s, c * i, c, ks, at);
     }
 }
 
@@ -50,11 +42,7 @@ pub fn sub_keys(s: &mut [u16], n: usize, c: usize, ks: &[u64], at: usize)
     requires { (4 * (c * n) ≤ length s.old) × (at + c ≤ length ks.now) }
     ensures { Walked c n (sub_key c (key_at c ks.now at)) s.old s.new }
 {
-    let mut i: usize = 0;
-    let mut w: usize = 0;
-    while i < n {
-        sub_block(s, w, c, ks, at);
-        w += c;
-        i += 1;
+    for i in 0..n {
+        sub_block(s, c * i, c, ks, at);
     }
 }

@@ -6,24 +6,18 @@ ghost use Rattle.field.specs.Xor.{xor};
 ghost use Rattle.field.specs.Column.{pack};
 ghost use Rattle.lookup.specs.Table.{turned, entry, half, gather};
 
-fn wide(x: u8) -> u64
-    ensures { (result ≡ x) × (result < 256) }
-{
-    x as u64
-}
-
-// Eight bytes of a table, as the number that they make: one load.
+// Eight bytes of a table, as the number that they make: one load. cells::bytes_at is the same of a slice; a table lent as a slice cost one in a hundred.
 fn eight_at(t: &[u8; 8192], p: usize) -> u64
     requires { p + 8 ≤ 8192 }
     ensures { result ≡ pack 8 (λ k. get_or t.now (p + k) 0) }
 {
-    let h = wide(t[p + 7]) * 256 + wide(t[p + 6]);
-    let g = h * 256 + wide(t[p + 5]);
-    let f = g * 256 + wide(t[p + 4]);
-    let e = f * 256 + wide(t[p + 3]);
-    let d = e * 256 + wide(t[p + 2]);
-    let c = d * 256 + wide(t[p + 1]);
-    c * 256 + wide(t[p])
+    let h = t[p + 7] as u64 * 256 + t[p + 6] as u64;
+    let g = h * 256 + t[p + 5] as u64;
+    let f = g * 256 + t[p + 4] as u64;
+    let e = f * 256 + t[p + 3] as u64;
+    let d = e * 256 + t[p + 2] as u64;
+    let c = d * 256 + t[p + 1] as u64;
+    c * 256 + t[p] as u64
 }
 
 // The column of row i at the byte x.

@@ -1,4 +1,4 @@
-// xor of bytes and words, under the name of specs/
+// xor of bytes and words, under the name of specs/. Two functions of one line: one over a type parameter would need a trait, and an impl with its law for each.
 #![tactic(auto)]
 
 ghost use Rattle.std.specs.Prelude.{◌≡◌, ◌+◌, ◌%◌, ◌^◌};

@@ -9,25 +9,14 @@ ghost use Rattle.rounds.specs.Rounds.{key_at};
 ghost use Rattle.blocks.specs.Blocks.{Width, keys_of};
 ghost use Rattle.open_laws.specs.Opening.{first_round, open_round, open_rounds, open_with, swapped, Unmixed};
 
-fn wide(x: u8) -> u16
-    ensures { (result ≡ x) × (result < 256) }
-{
-    x as u16
-}
-
-fn place(x: u64) -> usize
-    requires { x < 256 }
-    ensures { result ≡ x }
-{
-    x as usize
-}
+use rounds::Opening;
 
 // The byte x substituted by table i of the row p, as the low byte of a piece.
 fn low_at(p: &[u8; 1024], i: usize, x: u64) -> u16
     requires { (i < 4) × (x < 256) }
     ensures { result % 256 ≡ slice_index p.now (256 * i + x) }
 {
-    wide(p[256 * i + place(x)])
+    u16::from(p[256 * i + x as usize])
 }
 
 // And as the high byte of a piece.
@@ -35,7 +24,7 @@ fn high_at(p: &[u8; 1024], i: usize, x: u64) -> u16
     requires { (i < 4) × (x < 256) }
     ensures { result / 256 ≡ slice_index p.now (256 * i + x) }
 {
-    wide(p[256 * i + place(x)]) * 256
+    u16::from(p[256 * i + x as usize]) * 256
 }
 
 // The bytes of a column substituted by the row p of four tables, and gathered from the table t.
@@ -59,11 +48,9 @@ pub fn keys_back(t: &[u8; 8192], p: &[u8; 1024], ks: &mut [u64], c: usize, r: us
     ensures { Unmixed c (c * r) ks.old ks.new }
 {
     let end = c * r;
-    let mut k = c;
-    while k < end {
+    for k in c..end {
         let x = ks[k];
         ks[k] = swap(t, p, x);
-        k += 1;
     }
 }
 
@@ -73,11 +60,11 @@ fn walk(t: &[u8; 8192], s: &mut [u16], n: usize, c: usize, ks: &[u64], at: usize
     ensures { Walked c n (open_round c (key_at c ks.now at)) s.old s.new }
 {
     if c == 2 {
-        seal_rounds::walk2(t, s, n, ks, at);
+        rounds::walk::<Opening, 2>(t, s, n, ks, at);
     } else if c == 4 {
-        open_rounds::walk4(t, s, n, ks, at);
+        rounds::walk::<Opening, 4>(t, s, n, ks, at);
     } else {
-        open_rounds::walk8(t, s, n, ks, at);
+        rounds::walk::<Opening, 8>(t, s, n, ks, at);
     }
 }
 
@@ -86,10 +73,8 @@ fn walks(t: &[u8; 8192], s: &mut [u16], n: usize, c: usize, r: usize, ks: &[u64]
     requires { (t.now ≡ open_table) × Width c × (0 < r) × (4 * (c * n) ≤ length s.old) × (c * r ≤ length ks.now) }
     ensures { Walked c n (open_rounds c (keys_of c ks.now) (r - 1)) s.old s.new }
 {
-    let mut v = r - 1;
-    while v > 0 {
+    for v in (1..r).rev() {
         walk(t, s, n, c, ks, c * v);
-        v -= 1;
     }
 }
 
@@ -106,15 +91,13 @@ fn start_block(
     requires { (4 * (w + c) ≤ length s.old) × (at + c ≤ length ks.now) }
     ensures { s.new ≡ put_words s.old w c (λ j. swapped t.now p.now ((word_at s.old (w + j) + 2 ^ 64 - slice_index ks.now (at + j) % 2 ^ 64) % 2 ^ 64)) }
 {
-    let mut j: usize = 0;
-    while j < c {
+    for j in 0..c {
         let x = words::word_at(s, w + j);
         words::put_word(
             s,
             w + j,
             swap(t, p, std::num::wrapping_sub_u64(x, ks[at + j])),
         );
-        j += 1;
     }
 }
 
@@ -131,12 +114,8 @@ fn start_blocks(
     requires { (t.now ≡ open_table) × (p.now ≡ substitutions) × (4 * (c * n) ≤ length s.old) × (at + c ≤ length ks.now) }
     ensures { Walked c n (first_round c (key_at c ks.now at)) s.old s.new }
 {
-    let mut i: usize = 0;
-    let mut w: usize = 0;
-    while i < n {
-        start_block(t, p, s, w, c, ks, at);
-        w += c;
-        i += 1;
+    for i in 0..n {
+        start_block(t, p, s, c * i, c, ks, at);
     }
 }
 

@@ -1,4 +1,4 @@
-// The table of opening, as bytes: a caller makes it once and lends it.
+// The table of opening, as bytes: a caller makes it once and lends it. It and seal_table differ in their figures alone; a trait would only move the figures into impls.
 #![tactic(auto)]
 
 ghost use Rattle.std.specs.Prelude.{◌≡◌};

@@ -71,9 +71,6 @@ rounds_none c n K s = record { long = refl; done = λ i l. refl; kept = λ j l. 
 pub key_room : (c m t l : ℕ) → m ≤ t → c * (t + 1) ≤ l → c * m + c ≤ l
 key_room c m t l h r = omega (arith, mul-le-mul_left c h, (ap (λ x. c * x) (add-one t) ∙ mul-suc c t))
 
-pub next_key : (c m at : ℕ) → at ≡ c * (m + 1) → at + c ≡ c * (m + 1 + 1)
-next_key c m at e = ap (λ x. x + c) e ∙ sym (mul-suc c (m + 1)) ∙ ap (λ x. c * x) (sym (add-one (m + 1)))
-
 -- the first key added, the rounds, the last round
 pub seal_is : (c n t : ℕ) (ks s s' s'' s''' : List ℕ) → Walked c n (add_key c (key_at c ks 0)) s s' → Walked c n (λ x. rounds c (keys_of c ks) x (t - 1)) s' s''
     → Walked c n (λ x. add_key c (key_at c ks (c * t)) (ssm (moves c) c x)) s'' s''' → Walked c n (seal c t (keys_of c ks)) s s'''

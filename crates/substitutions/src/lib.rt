@@ -162,11 +162,7 @@ fn lay(t: &mut [u8], at: usize, p: [u8; 256])
     requires { at + 256 ≤ length t.old }
     ensures { t.new ≡ take at t.old ++ (tab 256 (λ k. get_or p k 0) ++ drop (at + 256) t.old) }
 {
-    let mut i: usize = 0;
-    while i < 256 {
-        t[at + i] = p[i];
-        i += 1;
-    }
+    t[at..at + 256].copy_from_slice(&p);
 }
 
 // The four substitutions, one after another.

@@ -4,21 +4,15 @@
 ghost use Rattle.std.specs.Prelude.{◌≡◌, ◌+◌, ◌*◌, ◌≤◌, ◌<◌, length};
 ghost use Rattle.words.specs.Words.{word_at, put_word};
 
-fn wide(x: u16) -> u64
-    ensures { (result ≡ x) × (result < 65536) }
-{
-    x as u64
-}
-
 // Column j.
 pub fn word_at(s: &[u16], j: usize) -> u64
     requires { 4 * j + 4 ≤ length s.now }
     ensures { result ≡ word_at s.now j }
 {
     let at = 4 * j;
-    let d = wide(s[at + 3]) * 65536 + wide(s[at + 2]);
-    let e = d * 65536 + wide(s[at + 1]);
-    e * 65536 + wide(s[at])
+    let d = s[at + 3] as u64 * 65536 + s[at + 2] as u64;
+    let e = d * 65536 + s[at + 1] as u64;
+    e * 65536 + s[at] as u64
 }
 
 // Column j replaced by w.

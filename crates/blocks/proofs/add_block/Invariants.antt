@@ -1,9 +1,6 @@
-use Rattle.std.proofs.Common.{◌≡◌, ◌+◌, ◌-◌, ◌%◌, ◌^◌, ◌≤◌, get_or}
+use Rattle.std.proofs.Common.{◌≡◌, ◌+◌, ◌%◌, ◌^◌, get_or}
 use Rattle.words.specs.Words.{word_at, put_words}
 use Rattle.blocks.proofs.add_block.Given as goal
 
 abbrev pub invariant-loop-j : goal.invariant-loop-j
-invariant-loop-j l = (l.j ≤ l.c) × (l.s ≡ put_words l.initial.s l.w l.j (λ j. (word_at l.initial.s (l.w + j) + get_or l.ks (l.at + j) 0) % 2 ^ 64))
-
-abbrev pub decreases-loop-j : goal.decreases-loop-j
-decreases-loop-j l = l.c - l.j
+invariant-loop-j l = l.s ≡ put_words l.initial.s l.w l.j (λ j. (word_at l.initial.s (l.w + j) + get_or l.ks (l.at + j) 0) % 2 ^ 64)

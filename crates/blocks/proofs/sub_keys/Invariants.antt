@@ -1,11 +1,7 @@
-use Rattle.std.proofs.Common.{◌≡◌, ◌-◌, ◌*◌, ◌≤◌}
 use Rattle.words.specs.Words.{Walked}
 use Rattle.kalyna.specs.Round.{sub_key}
 use Rattle.rounds.specs.Rounds.{key_at}
 use Rattle.blocks.proofs.sub_keys.Given as goal
 
 abbrev pub invariant-loop-i : goal.invariant-loop-i
-invariant-loop-i l = (l.i ≤ l.n) × (l.w ≡ l.c * l.i) × Walked l.c l.i (sub_key l.c (key_at l.c l.ks l.at)) l.initial.s l.s
-
-abbrev pub decreases-loop-i : goal.decreases-loop-i
-decreases-loop-i l = l.n - l.i
+invariant-loop-i l = Walked l.c l.i (sub_key l.c (key_at l.c l.ks l.at)) l.initial.s l.s

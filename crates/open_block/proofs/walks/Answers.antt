@@ -7,15 +7,12 @@ use Rattle.open_block.proofs.walks.Goals as goal
 pub loop-v-init : goal.loop-v-init
 loop-v-init c = (omega arith, nears_all c.args.c c.args.n (open_rounds c.args.c (keys_of c.args.c c.args.ks.now) (c.args.r - 1)) c.args.s.now)
 
-pub overflow_mul-c : goal.overflow_mul-c
-overflow_mul-c c = omega (arith, key_room c.args.c c.loop-v.v c.args.r (length c.args.ks.now) (omega arith) c.requires.4, c.well_formed)
-
 pub walk-requires : goal.walk-requires
-walk-requires c = (c.requires.0, c.requires.1, omega (arith, c.loop-v.invariant.1.long), key_room c.args.c c.loop-v.v c.args.r (length c.args.ks.now) (omega arith) c.requires.4)
+walk-requires c = (c.requires.0, c.requires.1, omega (arith, c.loop-v.invariant.1.long), key_room c.args.c (c.loop-v.v - 1) c.args.r (length c.args.ks.now) (omega arith) c.requires.4)
 
 pub loop-v-preserved : goal.loop-v-preserved
 unfolding keys_of
-loop-v-preserved c = (omega arith, nears_less c.args.c c.args.n (keys_of c.args.c c.args.ks.now) c.loop-v.v (open_rounds c.args.c (keys_of c.args.c c.args.ks.now) (c.args.r - 1)) c.args.s.now c.loop-v.s c.walk.new.s (omega arith) c.loop-v.invariant.1 c.walk.ensures)
+loop-v-preserved c = (omega arith, nears_less c.args.c c.args.n (keys_of c.args.c c.args.ks.now) (c.loop-v.v - 1) (open_rounds c.args.c (keys_of c.args.c c.args.ks.now) (c.args.r - 1)) c.args.s.now c.loop-v.s c.walk.new.s (omega arith) c.loop-v.invariant.1 c.walk.ensures)
 
 pub returns : goal.returns
-returns c = nears_none c.args.c c.args.n (keys_of c.args.c c.args.ks.now) c.loop-v.v (open_rounds c.args.c (keys_of c.args.c c.args.ks.now) (c.args.r - 1)) c.args.s.now c.loop-v.s (omega arith) c.loop-v.invariant.1
+returns c = nears_none c.args.c c.args.n (keys_of c.args.c c.args.ks.now) (c.loop-v.v - 1) (open_rounds c.args.c (keys_of c.args.c c.args.ks.now) (c.args.r - 1)) c.args.s.now c.loop-v.s (omega arith) c.loop-v.invariant.1

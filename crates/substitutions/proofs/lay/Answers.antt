@@ -1,15 +1,15 @@
-use mathlib.Core.Path.{refl, subst}
+use mathlib.Core.Path.{sym, ap, ◌∙◌}
+use mathlib.Core.List.{◌++◌}
+use Prim.Native.Nat.{◌+◌, ◌-◌}
 use native.Mathlib.Omega.{arith}
-use lib.ListN.{get_or}
-use Rattle.common.proofs.Runs.{Run, run_none, run_more, run_whole}
+use lib.ListN.{get_or, take, drop}
+use lib.Seq.{drop-drop}
+use borrow.Rule.Slice.PartMut.{put_mid}
+use Rattle.common.specs.Places.{tab}
+use Rattle.common.proofs.Places.{tab_self}
 use Rattle.substitutions.proofs.lay.Goals as goal
 
-pub loop-i-init : goal.loop-i-init
-loop-i-init c = (omega arith, run_none (λ k. get_or c.args.p k 0) c.args.at c.args.t.now)
-
-pub loop-i-preserved : goal.loop-i-preserved
-loop-i-preserved c = (omega arith, run_more (λ k. get_or c.args.p k 0) c.args.at c.args.t.now c.loop-i.i c.loop-i.t _ c.loop-i.invariant.1 (omega arith) refl)
-
 pub returns : goal.returns
-returns c = run_whole (λ k. get_or c.args.p k 0) c.args.at c.args.t.now 256 c.loop-i.t
-    (subst (λ n. Run (λ k. get_or c.args.p k 0) c.args.at c.args.t.now n c.loop-i.t) (omega arith) c.loop-i.invariant.1)
+returns c = let t = c.args.t.now in
+    ap (put_mid c.args.at (c.args.at + 256 - c.args.at) t) (c.copy_from_slice.ensures.after ∙ sym (tab_self 256 c.args.p (omega arith)))
+    ∙ ap (λ x. take c.args.at t ++ (tab 256 (λ k. get_or c.args.p k 0) ++ x)) (drop-drop (c.args.at + 256 - c.args.at) c.args.at t ∙ ap (λ n. drop n t) (omega arith))

@@ -1,3 +1,0 @@
--- Laws of a block that stands alone.
-pub mod Words
-pub mod Rounds

@@ -1,2 +1,0 @@
-// Laws of a block that stands alone; they are in proofs/.
-#![tactic(auto)]

@@ -1,0 +1,3 @@
+-- Laws of a block that stands alone.
+pub mod Columns
+pub mod Rounds

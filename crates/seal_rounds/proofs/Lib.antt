@@ -1,2 +1,0 @@
--- The pieces of a block, and its rows.
-pub mod Blocks
