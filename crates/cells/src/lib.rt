@@ -8,27 +8,21 @@ ghost use Rattle.field.specs.Xor.{xor};
 ghost use Rattle.field.specs.Column.{byte_of, pack};
 ghost use Rattle.words.specs.Words.{word_at, put_words};
 
-fn wide(x: u8) -> u64
-    ensures { (result ≡ x) × (result < 256) }
-{
-    x as u64
-}
-
-// Eight bytes from a place on, low byte first: one load.
+// Eight bytes from a place on, low byte first: one load. By hand, since u64::from_le_bytes takes an array, which eight bytes would have to be gathered into first.
 pub fn bytes_at(b: &[u8], at: usize) -> u64
     requires { at + 8 ≤ length b.now }
     ensures { result ≡ pack 8 (λ i. get_or b.now (at + i) 0) }
 {
-    let h = wide(b[at + 7]) * 256 + wide(b[at + 6]);
-    let g = h * 256 + wide(b[at + 5]);
-    let f = g * 256 + wide(b[at + 4]);
-    let e = f * 256 + wide(b[at + 3]);
-    let d = e * 256 + wide(b[at + 2]);
-    let c = d * 256 + wide(b[at + 1]);
-    c * 256 + wide(b[at])
+    let h = u64::from(b[at + 7]) * 256 + u64::from(b[at + 6]);
+    let g = h * 256 + u64::from(b[at + 5]);
+    let f = g * 256 + u64::from(b[at + 4]);
+    let e = f * 256 + u64::from(b[at + 3]);
+    let d = e * 256 + u64::from(b[at + 2]);
+    let c = d * 256 + u64::from(b[at + 1]);
+    c * 256 + u64::from(b[at])
 }
 
-// The bytes of a column, stored from a place on: one store.
+// The bytes of a column, stored from a place on: one store. By hand, as bytes_at.
 pub fn put_bytes(o: &mut [u8], at: usize, w: u64)
     requires { at + 8 ≤ length o.old }
     ensures { o.new ≡ sets o.old at (tab 8 (byte_of w)) }
@@ -48,10 +42,8 @@ pub fn load(s: &mut [u16], w: usize, b: &[u8], at: usize, m: usize)
     requires { (4 * (w + m) ≤ length s.old) × (at + 8 * m ≤ length b.now) }
     ensures { s.new ≡ put_words s.old w m (λ j. pack 8 (λ i. get_or b.now (at + 8 * j + i) 0)) }
 {
-    let mut j: usize = 0;
-    while j < m {
+    for j in 0..m {
         words::put_word(s, w + j, bytes_at(b, at + 8 * j));
-        j += 1;
     }
 }
 
@@ -60,11 +52,9 @@ pub fn xor_in(s: &mut [u16], w: usize, b: &[u8], at: usize, m: usize)
     requires { (4 * (w + m) ≤ length s.old) × (at + 8 * m ≤ length b.now) }
     ensures { s.new ≡ put_words s.old w m (λ j. xor (word_at s.old (w + j)) (pack 8 (λ i. get_or b.now (at + 8 * j + i) 0))) }
 {
-    let mut j: usize = 0;
-    while j < m {
+    for j in 0..m {
         let x = words::word_at(s, w + j);
         words::put_word(s, w + j, field::x64(x, bytes_at(b, at + 8 * j)));
-        j += 1;
     }
 }
 
@@ -73,10 +63,8 @@ pub fn store(s: &[u16], w: usize, o: &mut [u8], at: usize, m: usize)
     requires { (4 * (w + m) ≤ length s.now) × (at + 8 * m ≤ length o.old) }
     ensures { o.new ≡ take at o.old ++ (tab (8 * m) (λ n. byte_of (word_at s.now (w + n / 8)) (n % 8)) ++ drop (at + 8 * m) o.old) }
 {
-    let mut j: usize = 0;
-    while j < m {
+    for j in 0..m {
         put_bytes(o, at + 8 * j, words::word_at(s, w + j));
-        j += 1;
     }
 }
 
@@ -85,14 +73,12 @@ pub fn xor_out(s: &[u16], w: usize, b: &[u8], o: &mut [u8], at: usize, m: usize)
     requires { (4 * (w + m) ≤ length s.now) × (at + 8 * m ≤ length b.now) × (at + 8 * m ≤ length o.old) }
     ensures { o.new ≡ take at o.old ++ (tab (8 * m) (λ n. xor (get_or b.now (at + n) 0) (byte_of (word_at s.now (w + n / 8)) (n % 8))) ++ drop (at + 8 * m) o.old) }
 {
-    let mut j: usize = 0;
-    while j < m {
+    for j in 0..m {
         put_bytes(
             o,
             at + 8 * j,
             field::x64(bytes_at(b, at + 8 * j), words::word_at(s, w + j)),
         );
-        j += 1;
     }
 }
 
@@ -113,9 +99,7 @@ pub fn xor_rest(s: &[u16], k: usize, b: &[u8], o: &mut [u8], at: usize, n: usize
     requires { (k + n ≤ 2 * length s.now) × (length s.now % 4 ≡ 0) × (at + n ≤ length b.now) × (at + n ≤ length o.old) }
     ensures { o.new ≡ take at o.old ++ (tab n (λ i. xor (get_or b.now (at + i) 0) (byte_of (word_at s.now ((k + i) / 8)) ((k + i) % 8))) ++ drop (at + n) o.old) }
 {
-    let mut i: usize = 0;
-    while i < n {
+    for i in 0..n {
         o[at + i] = field::x8(b[at + i], byte_at(s, k + i));
-        i += 1;
     }
 }

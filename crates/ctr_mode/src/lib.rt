@@ -3,22 +3,23 @@
 
 ghost use Rattle.std.specs.Prelude.{◌≡◌, ◌+◌, ◌*◌, ◌/◌, ◌^◌, ◌<◌, ◌≤◌, ◌++◌, length, drop};
 ghost use Rattle.common.specs.Places.{tab};
-ghost use Rattle.lookup.specs.Table.{seal_table};
 ghost use Rattle.words.specs.Words.{put_words, block_at};
 ghost use Rattle.kalyna.specs.State.{columns_of};
-ghost use Rattle.kalyna.specs.Block.{seal, seal_bytes};
-ghost use Rattle.blocks.specs.Blocks.{Width, keys_of};
+ghost use Rattle.sealer.specs.Sealing.{block_size, sealed, sealed_by};
+ghost use Rattle.blocks.specs.Blocks.{Width};
 ghost use Rattle.modes.specs.Blocks as Text;
 ghost use Rattle.modes.specs.Stream as Stream;
 ghost use Rattle.stream_laws.specs.Gammas.{counted, Laid};
 
+use sealer::Sealer;
+
 // A block of bytes, sealed, as block 0 of a cell.
-fn seal_bytes(tab: &[u8; 8192], ks: &[u64], c: usize, t: usize, b: &[u8], e: &mut [u16])
-    requires { (tab.now ≡ seal_table) × Width c × (0 < t) × (t ≤ 18) × (c * (t + 1) ≤ length ks.now) × (length b.now ≡ 8 * c) × (4 * c ≤ length e.old) }
-    ensures { block_at c e.new 0 ≡ seal c t (keys_of c ks.now) (columns_of c b.now) }
+fn seal_bytes(sealer: &Sealer, b: &[u8], e: &mut [u16])
+    requires { (length b.now ≡ block_size sealer.now) × (4 * sealer.now.columns ≤ length e.old) }
+    ensures { block_at sealer.now.columns e.new 0 ≡ sealed sealer.now (columns_of sealer.now.columns b.now) }
 {
-    cells::load(e, 0, b, 0, c);
-    seal_block::seal_blocks(tab, e, 1, c, t, ks);
+    cells::load(e, 0, b, 0, sealer.columns);
+    sealer.seal(e, 1);
 }
 
 // What is carried when two columns are added.
@@ -37,13 +38,11 @@ fn count(e: &[u16], s: &mut [u16], w: usize, c: usize, x: u64)
     ensures { s.new ≡ put_words s.old w c (counted e.now x) }
 {
     let mut more = x;
-    let mut j: usize = 0;
-    while j < c {
+    for j in 0..c {
         let y = words::word_at(e, j);
         words::put_word(s, w + j, std::num::wrapping_add_u64(y, more));
         let next = over(y, more);
         more = next;
-        j += 1;
     }
 }
 
@@ -52,12 +51,8 @@ fn counters_for(e: &[u16], s: &mut [u16], n: usize, c: usize)
     requires { (4 * c ≤ length e.now) × (4 * (c * n) ≤ length s.old) }
     ensures { Laid c n (λ i. tab c (counted e.now (i + 1))) s.old s.new }
 {
-    let mut i: usize = 0;
-    let mut w: usize = 0;
-    while i < n {
-        count(e, s, w, c, (i + 1) as u64);
-        w += c;
-        i += 1;
+    for i in 0..n {
+        count(e, s, c * i, c, (i + 1) as u64);
     }
 }
 
@@ -78,41 +73,29 @@ fn counters(e: &[u16], s: &mut [u16], n: usize, c: usize)
 }
 
 // The gammas of n blocks.
-fn ctr_gammas(
-    tab: &[u8; 8192],
-    ks: &[u64],
-    c: usize,
-    t: usize,
-    iv: &[u8],
-    e: &mut [u16],
-    s: &mut [u16],
-    n: usize,
-)
-    requires { (tab.now ≡ seal_table) × Width c × (0 < t) × (t ≤ 18) × (c * (t + 1) ≤ length ks.now) × (length iv.now ≡ 8 * c) × (4 * c ≤ length e.old) × (4 * (c * n) ≤ length s.old) }
-    ensures { Laid c n (λ i. seal c t (keys_of c ks.now) (columns_of c (Text.block_of (8 * c) (Stream.counter (8 * c) (seal_bytes c t (keys_of c ks.now) iv.now) (i + 1))))) s.old s.new }
+fn ctr_gammas(sealer: &Sealer, iv: &[u8], e: &mut [u16], s: &mut [u16], n: usize)
+    requires { (length iv.now ≡ block_size sealer.now) × (4 * sealer.now.columns ≤ length e.old) × (4 * (sealer.now.columns * n) ≤ length s.old) }
+    ensures { Laid sealer.now.columns n (λ i. sealed sealer.now (columns_of sealer.now.columns (Text.block_of (block_size sealer.now) (Stream.counter (block_size sealer.now) (sealed_by sealer.now iv.now) (i + 1))))) s.old s.new }
 {
-    seal_bytes(tab, ks, c, t, iv, e);
-    counters(e, s, n, c);
-    seal_block::seal_blocks(tab, s, n, c, t, ks);
+    seal_bytes(sealer, iv, e);
+    counters(e, s, n, sealer.columns);
+    sealer.seal(s, n);
 }
 
 // Counters of one cell never repeat, so none is refused.
-pub fn ctr(tab: &[u8; 8192], ks: &[u64], c: usize, t: usize, iv: &[u8], text: &[u8], out: &mut [u8])
-    requires { (tab.now ≡ seal_table) × Width c × (0 < t) × (t ≤ 18) × (c * (t + 1) ≤ length ks.now) × (length iv.now ≡ 8 * c) × (length text.now ≤ 1024) × (length text.now ≤ length out.old) }
-    ensures { out.new ≡ Stream.ctr (8 * c) (seal_bytes c t (keys_of c ks.now)) iv.now text.now ++ drop (length text.now) out.old }
+pub fn ctr(sealer: &Sealer, iv: &[u8], text: &[u8], out: &mut [u8])
+    requires { (length iv.now ≡ block_size sealer.now) × (length text.now ≤ 1024) × (length text.now ≤ length out.old) }
+    ensures { out.new ≡ Stream.ctr (block_size sealer.now) (sealed_by sealer.now) iv.now text.now ++ drop (length text.now) out.old }
 {
     let long = text.len();
     let mut e = [0u16; 32];
     let mut s = [0u16; 512];
     ctr_gammas(
-        tab,
-        ks,
-        c,
-        t,
+        sealer,
         iv,
         &mut e,
         &mut s,
-        gamma_out::blocks_of(long, c),
+        gamma_out::blocks_of(long, sealer.columns),
     );
     gamma_out::add_front(&s, text, out, 0, long);
 }

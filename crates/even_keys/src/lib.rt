@@ -25,8 +25,7 @@ fn lane(
     requires { Width kc × (length k.now ≡ kc) × (c ≤ 8) × (u ≤ 16) × (4 * c ≤ length h.now) × (w + c ≤ length a.old) × (4 * (w + c) ≤ length s.old) }
     ensures { Lane c kc k.now h.now w u g a.old a.new s.old s.new }
 {
-    let mut j: usize = 0;
-    while j < c {
+    for j in 0..c {
         let x = column_words::added(words::word_at(h, j), g);
         a[w + j] = x;
         words::put_word(
@@ -34,7 +33,6 @@ fn lane(
             w + j,
             column_words::added(k[turns::around(j + u, kc)], x),
         );
-        j += 1;
     }
 }
 
@@ -44,13 +42,9 @@ fn lanes(s: &mut [u16], a: &mut [u64], h: &[u16], k: &[u64], c: usize, kc: usize
     ensures { Lanes c kc n k.now (block_at c h.now 0) a.new s.new }
 {
     let mut g: u64 = 281479271743489;
-    let mut w: usize = 0;
-    let mut i: usize = 0;
-    while i < n {
-        lane(s, a, w, h, g, k, c, kc, turns::turn_of(c, kc, i));
+    for i in 0..n {
+        lane(s, a, c * i, h, g, k, c, kc, turns::turn_of(c, kc, i));
         g = column_words::added(g, g);
-        w += c;
-        i += 1;
     }
 }
 
@@ -60,11 +54,9 @@ fn xor_lanes(s: &mut [u16], a: &[u64], c: usize, n: usize)
     ensures { Laned c n (λ e. xor_key c (keys_of c a.now e)) s.old s.new }
 {
     let m = c * n;
-    let mut j: usize = 0;
-    while j < m {
+    for j in 0..m {
         let x = words::word_at(s, j);
         words::put_word(s, j, field::x64(x, a[j]));
-        j += 1;
     }
 }
 
@@ -73,10 +65,8 @@ fn keep(ks: &mut [u64], at: usize, s: &[u16], a: &[u64], w: usize, c: usize)
     requires { (at + c ≤ length ks.old) × (w + c ≤ length a.now) × (4 * (w + c) ≤ length s.now) }
     ensures { Stored at c (λ j. (word_at s.now (w + j) + get_or a.now (w + j) 0) % 2 ^ 64) ks.old ks.new }
 {
-    let mut j: usize = 0;
-    while j < c {
+    for j in 0..c {
         ks[at + j] = column_words::added(words::word_at(s, w + j), a[w + j]);
-        j += 1;
     }
 }
 
@@ -85,14 +75,8 @@ fn keep_lanes(ks: &mut [u64], s: &[u16], a: &[u64], c: usize, n: usize)
     requires { (c * (2 * n) ≤ length ks.old) × (c * n ≤ length a.now) × (4 * (c * n) ≤ length s.now) }
     ensures { Spread c 0 n (λ e. add_key c (keys_of c a.now e) (block_at c s.now e)) ks.old ks.new }
 {
-    let mut at: usize = 0;
-    let mut w: usize = 0;
-    let mut i: usize = 0;
-    while i < n {
-        keep(ks, at, s, a, w, c);
-        at += 2 * c;
-        w += c;
-        i += 1;
+    for i in 0..n {
+        keep(ks, 2 * c * i, s, a, c * i, c);
     }
 }
 

@@ -6,8 +6,8 @@ use native.Mathlib.Nat.{zero-add, suc-mul, mul_comm, div-add-mod', mod-lt, mul-m
 use native.Mathlib.Numerals.{add-one}
 use native.Mathlib.Decide.{dec_lt}
 use native.Mathlib.Omega.{arith}
-use lib.ListN.{get_or, take, drop, length, set, replicate, length-drop, length-replicate, get_or-append}
-use lib.Seq.{get_or-append-add, get_or-append_seam, get_or-take, get_or-drop, length-take-le}
+use lib.ListN.{get_or, take, drop, length, set, replicate, length-append, length-drop, length-replicate, get_or-append}
+use lib.Seq.{take_at, drop_at, take_all, get_or-append-add, get_or-append_seam, get_or-take, get_or-drop, length-take-le}
 use Rattle.common.specs.Places.{tab}
 use Rattle.common.proofs.Places.{get_d_tab, length_tab, tab_ext, tab_add, tab_self}
 use Rattle.common.proofs.Runs.{Run, run_more, run_whole}
@@ -90,6 +90,26 @@ last_long o e = ap length e ∙ length-replicate {A = ℕ} 64 0
 -- one more byte stored
 pub run_store : (f : ℕ → ℕ) (o₀ o : List ℕ) (i v : ℕ) → Run f 0 o₀ i o → i < length o₀ → v ≡ f i → Run f 0 o₀ (i + 1) (set o i v)
 run_store f o₀ o i v r l e = subst (λ k. Run f 0 o₀ (i + 1) (set o k v)) (zero-add i) (run_more f 0 o₀ i o v r (omega arith) e)
+
+-- what is left of the text, stored at the front
+pub run_copied : (text o₀ o : List ℕ) (at : ℕ) → at ≤ length text → length text - at ≤ length o₀ → o ≡ take (length text - at) (drop at text) ++ drop (length text - at) o₀ → Run (filled text at) 0 o₀ (length text - at) o
+run_copied text o₀ o at h r e₀ =
+    record {
+      long = ap length e ∙ length-append (drop at text) (drop (length text - at) o₀) ∙ ap₂ (λ (a b : ℕ). a + b) (length-drop at text) (length-drop (length text - at) o₀) ∙ whole;
+      front = ap₂ (λ (n : ℕ) (x : List ℕ). take n x) (zero-add (length text - at)) e ∙ take_at (drop at text) (drop (length text - at) o₀) (length text - at) (length-drop at text) ∙ rest;
+      back = ap₂ (λ (n : ℕ) (x : List ℕ). drop n x) (zero-add (length text - at)) e ∙ drop_at (drop at text) (drop (length text - at) o₀) (length text - at) (length-drop at text) ∙ sym (ap (λ n. drop n o₀) (zero-add (length text - at)));
+    }
+  where
+    e : o ≡ drop at text ++ drop (length text - at) o₀
+    e = e₀ ∙ ap (λ x. x ++ drop (length text - at) o₀) (take_all (length text - at) (drop at text) (omega (arith, length-drop at text)))
+
+    whole : length text - at + (length o₀ - (length text - at)) ≡ length o₀
+    whole = omega arith
+
+    rest : drop at text ≡ tab (length text - at) (filled text at)
+    rest =
+        sym (tab_self (length text - at) (drop at text) (length-drop at text))
+        ∙ tab_ext (length text - at) _ (filled text at) (λ i l. get_or-drop at text i 0 ∙ filled_text text at i (omega arith))
 
 module _ (B : ℕ) (text : List ℕ) (pos : 0 < B) where
   abbrev Q : ℕ

@@ -13,7 +13,7 @@ pub fn blocks_of(n: usize, c: usize) -> usize
     requires { Width c × (n ≤ 1024) }
     ensures { result ≡ blocks_in (8 * c) n }
 {
-    (n + (8 * c - 1)) / (8 * c)
+    n.div_ceil(8 * c)
 }
 
 // n bytes of the text, from a place on, with the front of the cell added: whole columns, then what is left.

@@ -2,8 +2,8 @@
 use mathlib.Core.Path.{◌≡◌, refl, sym, ap, ◌∙◌, subst}
 use mathlib.Core.Logic.{◌⊎◌, ⊎_elim}
 use mathlib.Core.List.{List}
-use Prim.Native.Nat.{ℕ, suc, ◌+◌, ◌*◌, ◌<◌, ◌≤◌}
-use native.Mathlib.Nat.{not-suc-le-zero, mul-le-mul_left, mul-suc}
+use Prim.Native.Nat.{ℕ, ◌+◌, ◌*◌, ◌<◌, ◌≤◌}
+use native.Mathlib.Nat.{add-zero, not-suc-le-zero, mul-le-mul_left, mul-suc, mul_comm, mul_assoc}
 use native.Mathlib.Decide.{dec_lt}
 use native.Mathlib.Omega.{arith}
 use lib.ListN.{get_or, length, set, length-set}
@@ -83,15 +83,9 @@ spread_more c p i K s₀ s s' f at a q b e =
 pub spread_as : (c p n : ℕ) (K L : ℕ → List ℕ) (s s' : List ℕ) → ((e : ℕ) → e < n → K e ≡ L e) → Spread c p n K s s' → Spread c p n L s s'
 spread_as c p n K L s s' h a = record { long = a.long; done = λ e l. a.done e l ∙ h e l; kept = a.kept }
 
--- the place of the key after the next
-pub next_place : (c i p at : ℕ) → at ≡ c * (2 * i + p) → at + 2 * c ≡ c * (2 * (i + 1) + p)
-next_place c i p at e = ap (λ x. x + 2 * c) e ∙ over ∙ ap (λ x. c * x) same
-  where
-    same : suc (suc (2 * i + p)) ≡ 2 * (i + 1) + p
-    same = omega arith
-
-    over : c * (2 * i + p) + 2 * c ≡ c * suc (suc (2 * i + p))
-    over = omega (arith, mul-suc c (suc (2 * i + p)), mul-suc c (2 * i + p))
+-- the place of every second key
+pub even_place : (c i : ℕ) → 2 * c * i ≡ c * (2 * i + 0)
+even_place c i = ap (λ x. x * i) (mul_comm 2 c) ∙ mul_assoc c 2 i ∙ ap (λ x. c * x) (sym (add-zero (2 * i)))
 
 -- key v of the keys, column by column
 pub key_column : (c : ℕ) (s : List ℕ) (v j : ℕ) → j < c → get_or (keys_of c s v) j 0 ≡ get_or s (c * v + j) 0

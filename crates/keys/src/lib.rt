@@ -34,10 +34,8 @@ pub fn helper_columns(t: &[u8; 8192], key: &[u8], c: usize, kc: usize) -> [u64; 
     loads::load(&mut k, key, kc);
     let h = helper_key(t, &k[..kc], c, kc);
     let mut o = [0u64; 8];
-    let mut j: usize = 0;
-    while j < c {
+    for j in 0..c {
         o[j] = words::word_at(&h, j);
-        j += 1;
     }
     o
 }

@@ -9,9 +9,7 @@ pub fn load(k: &mut [u64], b: &[u8], n: usize)
     requires { (n ≤ length k.old) × (8 * n ≤ length b.now) }
     ensures { k.new ≡ columns_of n b.now ++ drop n k.old }
 {
-    let mut j: usize = 0;
-    while j < n {
+    for j in 0..n {
         k[j] = cells::bytes_at(b, 8 * j);
-        j += 1;
     }
 }

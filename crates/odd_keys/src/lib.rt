@@ -23,12 +23,10 @@ fn odd_key(ks: &mut [u64], at: usize, c: usize)
     ensures { Stored (at + c) c (λ j. odd_word c (get_or ks.old (at + (j + c / 4) % c) 0) (get_or ks.old (at + (j + c / 4 + 1) % c) 0)) ks.old ks.new }
 {
     let q = c / 4;
-    let mut j: usize = 0;
-    while j < c {
+    for j in 0..c {
         let x = ks[at + turns::around(j + q, c)];
         let y = ks[at + turns::around(j + q + 1, c)];
         ks[at + c + j] = odd_word(c, x, y);
-        j += 1;
     }
 }
 
@@ -37,11 +35,7 @@ pub fn odd_keys(ks: &mut [u64], c: usize, n: usize)
     requires { Width c × (c * (2 * n) ≤ length ks.old) }
     ensures { Spread c 1 n (λ e. odd_key c (keys_of c ks.old (2 * e))) ks.old ks.new }
 {
-    let mut at: usize = 0;
-    let mut i: usize = 0;
-    while i < n {
-        odd_key(ks, at, c);
-        at += 2 * c;
-        i += 1;
+    for i in 0..n {
+        odd_key(ks, 2 * c * i, c);
     }
 }

@@ -1,12 +1,12 @@
 // The first block of a cell, by its bytes: taken in, added to, sealed, given out.
 #![tactic(auto)]
 
-ghost use Rattle.std.specs.Prelude.{◌≡◌, ◌++◌, ◌+◌, ◌*◌, ◌≤◌, ◌<◌, take, drop, length};
-ghost use Rattle.lookup.specs.Table.{seal_table};
-ghost use Rattle.kalyna.specs.Block.{seal_bytes};
-ghost use Rattle.blocks.specs.Blocks.{Width, keys_of};
+ghost use Rattle.std.specs.Prelude.{◌≡◌, ◌++◌, ◌+◌, ◌*◌, ◌≤◌, take, drop, length};
+ghost use Rattle.sealer.specs.Sealing.{sealed_by};
 ghost use Rattle.modes.specs.Blocks.{xor_block};
 ghost use Rattle.one_block.specs.Held.{held};
+
+use sealer::Sealer;
 
 // A block of bytes, from a place of b on, becomes the first block.
 pub fn take_in(s: &mut [u16], c: usize, b: &[u8], at: usize)
@@ -24,12 +24,12 @@ pub fn add_in(s: &mut [u16], c: usize, b: &[u8], at: usize)
     cells::xor_in(s, 0, b, at, c);
 }
 
-// The first block sealed, with round keys ks.
-pub fn seal_first(tab: &[u8; 8192], s: &mut [u16], c: usize, t: usize, ks: &[u64])
-    requires { (tab.now ≡ seal_table) × Width c × (0 < t) × (4 * c ≤ length s.old) × (c * (t + 1) ≤ length ks.now) × (t ≤ 18) }
-    ensures { held c s.new ≡ seal_bytes c t (keys_of c ks.now) (held c s.old) }
+// The first block sealed.
+pub fn seal_first(sealer: &Sealer, s: &mut [u16])
+    requires { 4 * sealer.now.columns ≤ length s.old }
+    ensures { held sealer.now.columns s.new ≡ sealed_by sealer.now (held sealer.now.columns s.old) }
 {
-    seal_block::seal_blocks(tab, s, 1, c, t, ks);
+    sealer.seal(s, 1);
 }
 
 // The first block's bytes, stored from a place of o on.

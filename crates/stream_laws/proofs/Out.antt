@@ -1,18 +1,27 @@
 -- An output that is written from its front on.
-use mathlib.Core.Path.{◌≡◌, refl, sym, ap, ap₂, ◌∙◌}
+use mathlib.Core.Path.{◌≡◌, refl, sym, ap, ap₂, ◌∙◌, subst}
 use mathlib.Core.List.{List, ◌++◌, append_assoc}
-use Prim.Native.Nat.{ℕ, ◌+◌, ◌<◌, ◌≤◌}
+use Prim.Native.Nat.{ℕ, ◌+◌, ◌*◌, ◌<◌, ◌≤◌}
+use native.Mathlib.Nat.{zero-mul}
 use native.Mathlib.Omega.{arith}
 use lib.ListN.{take, drop, length, length-append, take-append-drop}
 use lib.Seq.{take_at, drop_at, drop-drop, length-take-le}
 use Rattle.common.specs.Places.{tab}
 use Rattle.common.proofs.Places.{tab_add, tab_ext, length_tab}
 use Rattle.stream_laws.specs.Gammas.{added, Written}
+use Rattle.stream_laws.proofs.Widths.{next_at}
 use Rattle.modes.specs.Stream.{add_gamma}
 
 pub written_none : (f : ℕ → ℕ) (o : List ℕ) → Written f 0 o o
 unfolding tab
 written_none f o = record { long = refl; front = refl; back = refl }
+
+-- no block of B bytes, and one more
+pub written_no_block : (f : ℕ → ℕ) (B : ℕ) (o : List ℕ) → Written f (0 * B) o o
+written_no_block f B o = subst (λ n. Written f n o o) (sym (zero-mul B)) (written_none f o)
+
+pub written_block : (f : ℕ → ℕ) (B i : ℕ) (o o' : List ℕ) → Written f (i * B + B) o o' → Written f ((i + 1) * B) o o'
+written_block f B i o o' = subst (λ n. Written f n o o') (next_at B i (i * B) refl)
 
 -- m more bytes
 pub written_more : (f g : ℕ → ℕ) (k m : ℕ) (o₀ o o' : List ℕ) → Written f k o₀ o → o' ≡ take k o ++ (tab m g ++ drop (k + m) o) → k + m ≤ length o₀

@@ -9,6 +9,10 @@ use native.Mathlib.Decide.{dec_lt}
 use native.Mathlib.Omega.{arith}
 use lib.ListN.{get_or, take, drop, length, set}
 use lib.Seq.{get_or-take, length-take-le, ext_get_or, take-append-le, set_split}
+use native.Mathlib.Decide.{ℕ_discrete}
+use borrow.Author.Tests.{eq-eqb, ne_eqb}
+use lib.Dec.{eqb}
+use Rattle.std.specs.Int.{from_bool}
 use Rattle.common.specs.Choice.{pick}
 use Rattle.field.specs.Xor.{xor}
 use Rattle.field.proofs.XorLaws as X
@@ -65,17 +69,25 @@ module _ (a b : List ℕ) (n : ℕ) (long : length a ≡ n) (room : n ≤ length
       go false e = refl
       go true e = absurd (h (alike a b n (λ i l. ap (λ x. get_or x i 0) (same_true a (take n b) e) ∙ get_or-take n b i 0 l)))
 
-listed : (t : Bool) → pick {A = ℕ} t 1 0 ∷ [] ≡ pick t (1 ∷ []) (0 ∷ [])
+  -- the sum against 0
+  pub differ_says : (d : ℕ) → d ≡ differ a b n → eqb d 0 ≡ same a (take n b)
+  differ_says d e = go (ℕ_discrete d 0)
+    where
+      go : Dec (d ≡ 0) → eqb d 0 ≡ same a (take n b)
+      go (yes q) = eq-eqb d 0 q ∙ sym (differ_same (sym e ∙ q))
+      go (no q) = ne_eqb d 0 q ∙ sym (differ_other (λ z. q (e ∙ z)))
+
+listed : (t : Bool) → from_bool t ∷ [] ≡ pick t (1 ∷ []) (0 ∷ [])
 unfolding pick
 listed true = refl
 listed false = refl
 
 -- the byte is what 9.3 answers
-pub chk_is : (B : ℕ) (E : List ℕ → List ℕ) (tag text right rest : List ℕ) (r : ℕ) → length (mac B E text) ≡ B → length tag ≤ B → right ≡ mac B E text ++ rest
-    → r ≡ pick (same tag (take (length tag) right)) 1 0 → r ∷ [] ≡ chk B E tag text
+pub chk_is : (B : ℕ) (E : List ℕ → List ℕ) (tag text right rest : List ℕ) (s : Bool) (r : ℕ) → length (mac B E text) ≡ B → length tag ≤ B → right ≡ mac B E text ++ rest
+    → s ≡ same tag (take (length tag) right) → r ≡ from_bool s → r ∷ [] ≡ chk B E tag text
 unfolding chk
-chk_is B E tag text right rest r lm lt er e =
-    ap (λ x. x ∷ []) (e ∙ ap (λ x. pick {A = ℕ} (same tag x) 1 0) (ap (take (length tag)) er ∙ take-append-le (length tag) (mac B E text) rest (omega (arith, lm))))
+chk_is B E tag text right rest s r lm lt er es e =
+    ap (λ x. x ∷ []) (e ∙ ap from_bool (es ∙ ap (same tag) (ap (take (length tag)) er ∙ take-append-le (length tag) (mac B E text) rest (omega (arith, lm)))))
     ∙ listed (same tag (take (length tag) (mac B E text)))
 
 -- and is stored

@@ -6,4 +6,4 @@ use Rattle.field.proofs.PackLaws.{eight_bytes}
 use Rattle.cells.proofs.bytes_at.Goals as goal
 
 pub returns : goal.returns
-returns c = eight_bytes (λ k. get_or c.args.b.now (c.args.at + k) 0) _ _ _ _ _ _ _ _ c.wide.ensures.0 c.wide-2.ensures.0 c.wide-3.ensures.0 c.wide-4.ensures.0 c.wide-5.ensures.0 c.wide-6.ensures.0 c.wide-7.ensures.0 (c.wide-8.ensures.0 ∙ ap (λ n. get_or c.args.b.now n 0) (sym (add-zero c.args.at)))
+returns c = eight_bytes (λ k. get_or c.args.b.now (c.args.at + k) 0) _ _ _ _ _ _ _ _ c.from.ensures c.from-2.ensures c.from-3.ensures c.from-4.ensures c.from-5.ensures c.from-6.ensures c.from-7.ensures (c.from-8.ensures ∙ ap (λ n. get_or c.args.b.now n 0) (sym (add-zero c.args.at)))

@@ -1,4 +1,4 @@
-use Prim.Native.Nat.{◌+◌, ◌-◌, ◌*◌, ◌≤◌}
+use Prim.Native.Nat.{◌+◌, ◌*◌, ◌≤◌}
 use lib.ListN.{get_or}
 use Rattle.common.proofs.Runs.{Run}
 use Rattle.field.specs.Xor.{xor}
@@ -7,6 +7,3 @@ use Rattle.cells.proofs.xor_out.Given as goal
 
 abbrev pub invariant-loop-j : goal.invariant-loop-j
 invariant-loop-j l = (l.j ≤ l.m) × Run (λ n. xor (get_or l.b (l.at + n) 0) (byte l.s l.w n)) l.at l.initial.o (8 * l.j) l.o
-
-abbrev pub decreases-loop-j : goal.decreases-loop-j
-decreases-loop-j l = l.m - l.j

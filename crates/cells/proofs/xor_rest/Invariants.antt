@@ -1,4 +1,4 @@
-use Prim.Native.Nat.{◌+◌, ◌-◌, ◌/◌, ◌%◌, ◌≤◌}
+use Prim.Native.Nat.{◌+◌, ◌/◌, ◌%◌, ◌≤◌}
 use lib.ListN.{get_or}
 use Rattle.common.proofs.Runs.{Run}
 use Rattle.field.specs.Xor.{xor}
@@ -8,6 +8,3 @@ use Rattle.cells.proofs.xor_rest.Given as goal
 
 abbrev pub invariant-loop-i : goal.invariant-loop-i
 invariant-loop-i l = (l.i ≤ l.n) × Run (λ i. xor (get_or l.b (l.at + i) 0) (byte_of (word_at l.s ((l.k + i) / 8)) ((l.k + i) % 8))) l.at l.initial.o l.i l.o
-
-abbrev pub decreases-loop-i : goal.decreases-loop-i
-decreases-loop-i l = l.n - l.i

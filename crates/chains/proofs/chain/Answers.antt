@@ -1,30 +1,27 @@
-use mathlib.Core.Path.{refl, sym, ap, ◌∙◌}
-use Prim.Native.Nat.{◌+◌, ◌*◌}
-use native.Mathlib.Nat.{zero-mul}
+use mathlib.Core.Path.{refl, ap, ◌∙◌}
 use native.Mathlib.Omega.{arith}
 use lib.ListN.{length}
-use Rattle.kalyna.specs.Block.{seal_bytes}
-use Rattle.blocks.specs.Blocks.{keys_of}
-use Rattle.blocks.proofs.Widths.{width_le}
+use Rattle.sealer.specs.Sealing.{block_size, sealed_by}
 use Rattle.modes.specs.Chain.{chained}
 use Rattle.one_block.specs.Held.{held}
-use Rattle.chains.proofs.Laws.{block_room, next_place, chained_none, chained_more}
+use Rattle.chains.proofs.Laws.{block_room, chained_none, chained_more}
+use Rattle.sealer.proofs.Sizes.{columns_le}
 use Rattle.chains.proofs.chain.Goals as goal
 
 pub loop-i-init : goal.loop-i-init
-loop-i-init c = (omega arith, sym (zero-mul (8 * c.args.c)), refl, chained_none (8 * c.args.c) (seal_bytes c.args.c c.args.t (keys_of c.args.c c.args.ks.now)) (held c.args.c c.args.s.now) c.args.text.now)
+loop-i-init c = (refl, chained_none (block_size c.args.sealer.now) (sealed_by c.args.sealer.now) (held c.args.sealer.now.columns c.args.s.now) c.args.text.now)
 
 pub link-requires : goal.link-requires
-link-requires c = (c.requires.0, c.requires.1, c.requires.2, c.requires.3, c.requires.4, omega (arith, c.loop-i.invariant.2, c.requires.5), omega (arith, c.loop-i.invariant.1, block_room (8 * c.args.c) c.loop-i.i c.args.n (length c.args.text.now) (omega arith) c.requires.6))
+link-requires c = (omega (arith, c.loop-i.invariant.0, c.requires.0), omega (arith, block_room (block_size c.args.sealer.now) c.loop-i.i c.args.n (length c.args.text.now) (omega arith) c.requires.1))
 
-pub overflow_mul-at : goal.overflow_mul-at
-overflow_mul-at c = omega (arith, width_le c.args.c c.requires.1)
+pub overflow_mul-sealer : goal.overflow_mul-sealer
+overflow_mul-sealer c = omega (arith, columns_le c.args.sealer.now)
 
-pub overflow_add-at : goal.overflow_add-at
-overflow_add-at c = omega (arith, c.well_formed, c.loop-i.invariant.1, block_room (8 * c.args.c) c.loop-i.i c.args.n (length c.args.text.now) (omega arith) c.requires.6)
+pub overflow_mul-i : goal.overflow_mul-i
+overflow_mul-i c = omega (arith, c.well_formed, block_room (block_size c.args.sealer.now) c.loop-i.i c.args.n (length c.args.text.now) (omega arith) c.requires.1)
 
 pub loop-i-preserved : goal.loop-i-preserved
-loop-i-preserved c = (omega arith, ap (λ x. x + (8 * c.args.c)) c.loop-i.invariant.1 ∙ sym (next_place (8 * c.args.c) c.loop-i.i), c.link.auto.s ∙ c.loop-i.invariant.2, chained_more (8 * c.args.c) (seal_bytes c.args.c c.args.t (keys_of c.args.c c.args.ks.now)) (held c.args.c c.args.s.now) c.args.text.now c.loop-i.i c.loop-i.at _ _ c.loop-i.invariant.1 c.loop-i.invariant.3 c.link.ensures)
+loop-i-preserved c = (c.link.auto.s ∙ c.loop-i.invariant.0, chained_more (block_size c.args.sealer.now) (sealed_by c.args.sealer.now) (held c.args.sealer.now.columns c.args.s.now) c.args.text.now c.loop-i.i _ _ _ refl c.loop-i.invariant.1 c.link.ensures)
 
 pub returns : goal.returns
-returns c = c.loop-i.invariant.3 ∙ ap (chained (8 * c.args.c) (seal_bytes c.args.c c.args.t (keys_of c.args.c c.args.ks.now)) (held c.args.c c.args.s.now) c.args.text.now) (omega arith)
+returns c = c.loop-i.invariant.1 ∙ ap (chained (block_size c.args.sealer.now) (sealed_by c.args.sealer.now) (held c.args.sealer.now.columns c.args.s.now) c.args.text.now) (omega arith)

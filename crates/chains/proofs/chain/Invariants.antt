@@ -1,14 +1,9 @@
 use mathlib.Core.Path.{◌≡◌}
-use Prim.Native.Nat.{◌-◌, ◌*◌, ◌≤◌}
 use lib.ListN.{length}
-use Rattle.kalyna.specs.Block.{seal_bytes}
-use Rattle.blocks.specs.Blocks.{keys_of}
+use Rattle.sealer.specs.Sealing.{block_size, sealed_by}
 use Rattle.modes.specs.Chain.{chained}
 use Rattle.one_block.specs.Held.{held}
 use Rattle.chains.proofs.chain.Given as goal
 
 abbrev pub invariant-loop-i : goal.invariant-loop-i
-invariant-loop-i l = (l.i ≤ l.n) × (l.at ≡ l.i * (8 * l.c)) × (length l.s ≡ length l.initial.s) × (held l.c l.s ≡ chained (8 * l.c) (seal_bytes l.c l.t (keys_of l.c l.ks)) (held l.c l.initial.s) l.text l.i)
-
-abbrev pub decreases-loop-i : goal.decreases-loop-i
-decreases-loop-i l = l.n - l.i
+invariant-loop-i l = (length l.s ≡ length l.initial.s) × (held l.sealer.columns l.s ≡ chained (block_size l.sealer) (sealed_by l.sealer) (held l.sealer.columns l.initial.s) l.text l.i)

@@ -1,11 +1,8 @@
 use mathlib.Core.Path.{◌≡◌}
-use Prim.Native.Nat.{◌-◌, ◌≤◌}
+use Prim.Native.Nat.{◌-◌}
 use lib.ListN.{take}
 use Rattle.modes.specs.Fill.{unfill, unfill_from}
 use Rattle.fills.proofs.text_end.Given as goal
 
 abbrev pub invariant-loop-k : goal.invariant-loop-k
-invariant-loop-k l = (l.k ≤ l.b) × (unfill l.b (take l.n l.p) ≡ unfill_from (l.n - l.b) l.k (take l.n l.p))
-
-abbrev pub decreases-loop-k : goal.decreases-loop-k
-decreases-loop-k l = l.k
+invariant-loop-k l = unfill l.b (take l.n l.p) ≡ unfill_from (l.n - l.b) l.k (take l.n l.p)

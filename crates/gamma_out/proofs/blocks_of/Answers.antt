@@ -1,21 +1,17 @@
-use mathlib.Core.Path.{refl}
+use mathlib.Core.Path.{◌≡◌, ◌∙◌}
+use Prim.Native.Nat.{◌+◌, ◌-◌, ◌*◌, ◌/◌}
 use native.Mathlib.Omega.{arith}
-use Rattle.blocks.proofs.Widths.{width_pos, width_le}
+use Rattle.std.specs.Int.{div_ceil}
+use Rattle.blocks.proofs.Widths.{by_width, width_le, width_lt}
 use Rattle.modes.specs.Cell.{blocks_in}
 use Rattle.gamma_out.proofs.blocks_of.Goals as goal
 
-pub overflow_mul-result : goal.overflow_mul-result
-overflow_mul-result c = omega (arith, width_pos c.args.c c.requires.0, width_le c.args.c c.requires.0)
+pub overflow_mul-c : goal.overflow_mul-c
+overflow_mul-c c = omega (arith, width_le c.args.c c.requires.0)
 
-pub overflow_sub-result : goal.overflow_sub-result
-overflow_sub-result c = omega (arith, width_pos c.args.c c.requires.0, width_le c.args.c c.requires.0)
-
-pub overflow_add-result : goal.overflow_add-result
-overflow_add-result c = omega (arith, width_pos c.args.c c.requires.0, width_le c.args.c c.requires.0)
-
-pub overflow_mul-result-2 : goal.overflow_mul-result-2
-overflow_mul-result-2 c = omega (arith, width_pos c.args.c c.requires.0, width_le c.args.c c.requires.0)
+pub div_ceil-requires : goal.div_ceil-requires
+div_ceil-requires c = width_lt c.args.c c.requires.0
 
 pub returns : goal.returns
 unfolding blocks_in
-returns c = refl
+returns c = c.div_ceil.ensures ∙ by_width (λ d. div_ceil c.args.n (8 * d) ≡ (c.args.n + (8 * d - 1)) / (8 * d)) (omega arith) (omega arith) (omega arith) c.args.c c.requires.0

@@ -1,0 +1,2 @@
+-- Where a filled text ends.
+pub mod Ended

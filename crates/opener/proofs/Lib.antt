@@ -1,0 +1,2 @@
+-- What every opener keeps.
+pub mod Sizes

@@ -1,0 +1,2 @@
+-- What an opener does to a block.
+pub mod Opening

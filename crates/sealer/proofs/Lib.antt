@@ -1,0 +1,2 @@
+-- What every sealer keeps.
+pub mod Sizes

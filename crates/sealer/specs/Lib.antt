@@ -1,0 +1,3 @@
+-- What a sealer does to a block.
+pub mod Widths
+pub mod Sealing
