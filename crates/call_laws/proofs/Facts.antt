@@ -15,7 +15,7 @@ use Rattle.modes.proofs.Fill.{value_inj}
 use Rattle.modes.proofs.Checks.{IvFits, TextSome, TextShort, TextWhole, TagFits}
 use Rattle.modes.proofs.Cell.{Makes}
 use Rattle.answers.specs.Told.{told_of}
-use Rattle.answers.specs.declared.Told.TheVariants.{Done}
+use Rattle.std.proofs.Common.{Ok}
 use Rattle.handing.proofs.Giving.{gives}
 use Rattle.judging.specs.Order.{length_before}
 use Rattle.judging.specs.Cleared.{Cleared}
@@ -75,7 +75,7 @@ module _ (g : Call) (s : Suite) (key side text : Value) (out : List ℕ) (c : Cl
 
   -- what was written, V of the block's length and the cipher, is what is delivered
   pub done : (g ≡ Call.uncbp → ⊥) → (L : ℕ) (after : List ℕ) (v : Value) → Makes g s key side text ≡ value v → length_before g (8 * s.columns) (length text) ≡ L → after ≡ v ++ drop L out
-      → told_of (Done L) after ≡ deliver (Makes g s key side text) out
+      → told_of (Ok L) after ≡ deliver (Makes g s key side text) out
   done h L after v m e w = gives v out after L (sym long) (room L e) w ∙ sym (ap (λ a. deliver a out) m)
     where
       l : Long (Makes g s key side text) (length_before g (block_bytes s) (length text))

@@ -1,15 +1,11 @@
 -- The scheduled keys make the standard's cipher, both ways.
 use mathlib.Core.Path.{◌≡◌, sym, fun_ext}
-use mathlib.Core.List.{List}
 use Prim.Native.Nat.{ℕ, ◌≤◌}
-use lib.ListN.{length}
 use Rattle.common.specs.Answer.{Value}
-use Rattle.common.proofs.Places.{length_tab}
 use Rattle.kalyna.specs.State.{columns_of}
 use Rattle.kalyna.specs.Block.{seal_bytes, unseal_bytes}
 use Rattle.kalyna.specs.Keys.{round_key}
 use Rattle.blocks.specs.Blocks.{keys_of}
-use Rattle.key_laws.specs.Schedule.{schedule_of}
 use Rattle.key_laws.proofs.Schedule.{schedule_keys}
 use Rattle.suites.specs.Suites.{key_columns}
 use Rattle.suites.specs.declared.Suite.{Suite}

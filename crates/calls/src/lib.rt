@@ -1,54 +1,42 @@
 // A cipher call whole: its checks in their order, then what it makes, with tables that the caller lends.
 #![tactic(auto)]
 
-ghost use Rattle.std.specs.Prelude.{◌≡◌};
+ghost use Rattle.std.specs.Prelude.{◌≡◌, nat_eq};
 ghost use Rattle.common.specs.Answer.{deliver};
 ghost use Rattle.answers.specs.Told.{told_of};
-ghost use Rattle.lent.specs.Lent.{Lent, need_of};
+ghost use Rattle.lent.specs.Lent.{Serves, need_of};
 ghost use Rattle.modes.specs.Cell.{call_of, cell};
 
-use answers::Told;
-use judging::Judged;
+use answers::Refusal;
+use lent::Tables;
 
-// Which tables call f needs: 1 the sealing one, 2 the opening ones too.
-fn need(f: usize) -> usize
-    ensures { result ≡ need_of f }
+// f stays a number: each one has an answer, and a narrower type would ask more of callers.
+
+// Whether call f opens blocks, and needs the opening tables too.
+#[tactic(auto, using(crate::proofs::Ways::opens_2, crate::proofs::Ways::opens_1))]
+fn opens(f: usize) -> bool
+    ensures { result ≡ nat_eq (need_of f) 2 }
 {
-    if f == 1 {
-        return 2;
-    }
-    if f == 7 {
-        return 2;
-    }
-    if f == 9 {
-        return 2;
-    }
-    1
+    matches!(f, 1 | 7 | 9)
 }
 
 // Call f of suite number n, whatever the lengths: what is delivered is what the cell answers.
+#[tactic(auto, using(crate::proofs::Ways::told_refused, crate::proofs::Ways::told_made, crate::proofs::Ways::cleared, crate::proofs::Ways::need_2, crate::proofs::Ways::need_1, crate::proofs::Ways::serves))]
 pub fn call(
-    tab: &[u8; 8192],
-    back: &[u8; 8192],
-    p: &[u8; 1024],
-    u: &[u8; 1024],
+    tables: &Tables,
     f: usize,
     n: u64,
     key: &[u8],
     side: &[u8],
     text: &[u8],
     out: &mut [u8],
-) -> Told
-    requires { Lent (need_of f) tab.now back.now p.now u.now }
+) -> Result<usize, Refusal>
+    requires { Serves (need_of f) tables.now }
     ensures { told_of result out.new ≡ deliver (cell (call_of f) n key.now side.now text.now) out.old }
 {
-    match judging::judge(f, n, key.len(), side.len(), text.len(), out.len()) {
-        Judged::Refused(m) => Told::Refused(m),
-        Judged::Fine(s) => {
-            if need(f) == 2 {
-                return openings::open_call(tab, back, p, u, f, s, key, side, text, out);
-            }
-            Told::Done(sealings::seal_call(tab, f, s, key, side, text, out))
-        }
+    let s = judging::judge(f, n, key.len(), side.len(), text.len(), out.len())?;
+    if opens(f) {
+        return openings::open_call(tables, f, s, key, side, text, out);
     }
+    Ok(sealings::seal_call(tables.seal, f, s, key, side, text, out))
 }

@@ -1,28 +1,27 @@
 -- The cipher calls of a recipe mean what `cell` says: demand 3, stated for them.
 use mathlib.Core.Path.{◌≡◌, refl, sym, ap, ◌∙◌}
-use mathlib.Core.List.{List, [], ◌∷◌}
-use Prim.Native.Nat.{ℕ, zero, suc, ◌<◌}
+use mathlib.Core.List.{List, []}
+use Prim.Native.Nat.{ℕ}
 use native.Mathlib.Omega.{arith}
 use lib.ListN.{get_or, take}
+use Rattle.std.proofs.Common.{Option, Some, None}
 use Rattle.common.specs.Answer.{Value}
-use Rattle.common.specs.Answer.Answer.{value, refused}
+use Rattle.common.specs.Answer.Answer.{refused}
 use Rattle.tree.specs.Tree.{Tree}
 use Rattle.tree.specs.Bounds.{Bytes}
 use Rattle.tree.specs.Names.{Binding, Running, unbound}
-use Rattle.tree.specs.Values.{IsValue}
 use Rattle.meaning.specs.Mean.{mean}
 use Rattle.meaning.specs.Real.{real}
 use Rattle.meaning.specs.Fold.{fold}
-use Rattle.meaning.specs.Values.{AllValues, Valued, CipherValued}
+use Rattle.meaning.specs.Values.{CipherValued}
 use Rattle.meaning.specs.Numbers.{Numbered, CipherNumbered}
 use Rattle.meaning.proofs.Meaning.{real_fold_mean}
+use Rattle.suites.specs.declared.Suite.{Suite}
 use Rattle.suites.specs.Suites.{suite_of}
-use Rattle.suites.specs.declared.Named.{Named}
-use Rattle.suites.specs.declared.Named.TheVariants.{Known, Unknown}
+use Rattle.suites.specs.declared.Suite.{Suite}
 use Rattle.modes.specs.Cell.{Call, Side, cell, cell_of, arranged, call_of, side_of}
 use Rattle.modes.proofs.Cell.{cell_unknown}
 use Rattle.modes.proofs.Numbers.{no_other}
-use Rattle.modes.proofs.Values.{cell_good}
 use Rattle.recipe.specs.Prepare.{prepare_of}
 use Rattle.recipe.specs.Keeps.{Keeps}
 use Rattle.recipe.proofs.Demand.{prepared_keeps}
@@ -42,11 +41,11 @@ cell_numbered f n key side text x e z = go (suite_of n) refl
     zero_refused : cell f n key side text ≡ refused 0
     zero_refused = e ∙ ap refused z
 
-    go : (m : Named) → suite_of n ≡ m → ⊥
-    go (Known s) k =
+    go : (m : Option Suite) → suite_of n ≡ m → ⊥
+    go (Some s) k =
         let q : ◌≡◌ {A = ℕ} 0 8 = no_other f n s key side text k 0 zero_refused (λ w. omega arith) (λ w. omega arith) (λ w. omega arith) (λ w. omega arith) (λ w. omega arith) (λ w. omega arith) in
         omega arith
-    go Unknown k =
+    go None k =
         let a : refused 0 ≡ refused 1 = sym zero_refused ∙ cell_unknown f n key side text k in
         let q : ◌≡◌ {A = ℕ} 0 1 = cc in
         omega arith

@@ -6,27 +6,24 @@ ghost use Rattle.common.specs.Answer.{deliver};
 ghost use Rattle.common.specs.Answer.Answer.{value};
 ghost use Rattle.answers.specs.Told.{told_of};
 
-use answers::Told;
+use answers::Refusal;
 
 // A value written into the output from a place on.
 pub fn put(out: &mut [u8], at: usize, v: &[u8])
     requires { at + length v.now ≤ length out.old }
     ensures { out.new ≡ take at out.old ++ (v.now ++ drop (at + length v.now) out.old) }
 {
-    let mut i: usize = 0;
-    while i < v.len() {
-        out[at + i] = v[i];
-        i += 1;
-    }
+    out[at..at + v.len()].copy_from_slice(v);
 }
 
 // A value as it stands.
-pub fn hand(v: &[u8], out: &mut [u8]) -> Told
+#[tactic(auto, using(crate::proofs::Giving::lacks, crate::proofs::Giving::gives, crate::proofs::Giving::hand_out))]
+pub fn hand(v: &[u8], out: &mut [u8]) -> Result<usize, Refusal>
     ensures { told_of result out.new ≡ deliver (value v.now) out.old }
 {
     if out.len() < v.len() {
-        return Told::Refused(9);
+        return Err(Refusal::Room);
     }
     put(out, 0, v);
-    Told::Done(v.len())
+    Ok(v.len())
 }

@@ -7,14 +7,13 @@ use native.Mathlib.Omega.{arith}
 use borrow.Author.Tests.{ltb-true, ltb-false, le-leb}
 use lib.Dec.{ltb}
 use lib.ListN.{length, drop}
+use Rattle.std.proofs.Common.{Option, Some, None, Result, Ok, Err}
 use Rattle.common.specs.Choice.{pick}
 use Rattle.common.specs.Answer.{Value, Answer, deliver, refusal}
 use Rattle.common.specs.Answer.Answer.{value, refused}
 use Rattle.common.proofs.Delivering.{deliver_short}
 use Rattle.suites.specs.Suites.{suite_of, block_bytes}
 use Rattle.suites.specs.declared.Suite.{Suite}
-use Rattle.suites.specs.declared.Named.{Named}
-use Rattle.suites.specs.declared.Named.TheVariants.{Known, Unknown}
 use Rattle.modes.specs.Stream as Stream
 use Rattle.modes.specs.Fill.{fill, unfill}
 use Rattle.modes.specs.Cell.{Call, side_of, shape_of, key_wrong, iv_wrong, text_empty, text_long, text_partial, tag_wrong, wraps, made, sealing, opening, checked, cell}
@@ -27,8 +26,9 @@ use Rattle.modes.proofs.Cell.{Makes, ctr_makes, cell_known, cell_unknown}
 use Rattle.modes.proofs.Mac.{mac_bytes, chk_either}
 use Rattle.judging.specs.Order.{length_before, judged_for, judged_named, judged_of}
 use Rattle.judging.specs.Cleared.{Cleared}
-use Rattle.judging.specs.declared.Judged.{Judged}
-use Rattle.judging.specs.declared.Judged.TheVariants.{Fine, Refused}
+use Rattle.answers.specs.declared.Refusal.{Refusal}
+use Rattle.answers.specs.declared.Refusal.TheVariants as refusals
+use Rattle.answers.specs.Told.{table}
 
 -- ---- the length of what is made
 
@@ -41,7 +41,7 @@ pub record Long (a : Answer) (n : ℕ) : Type 0 where
 long_as : (a : Answer) (v : Value) (n : ℕ) → a ≡ value v → length v ≡ n → Long a n
 long_as a v n e l = record { what = v; is = e; long = l }
 
-module _ (n : ℕ) (s : Suite) (key side text : Value) (k : suite_of n ≡ Known s) where
+module _ (n : ℕ) (s : Suite) (key side text : Value) (k : suite_of n ≡ Some s) where
   pub made_long : (f : Call) → Past f s key side text → (f ≡ Call.uncbp → ⊥) → Long (Makes f s key side text) (length_before f (block_bytes s) (length text))
   unfolding shape_of made length_before
   made_long Call.blk p h = long_as _ _ _ refl ((cipher_of n s key k).sealed text).long
@@ -118,27 +118,27 @@ pub record Passes (f : Call) (s : Suite) (key side text : Value) (out : List ℕ
   pub past : Past f s key side text
   pub room : length_before f (block_bytes s) (length text) ≤ length out
 
-abbrev pub Owes : (a : Answer) (f : Call) (s : Suite) (key side text : Value) (out : List ℕ) → Judged → Type 0
-Owes a f s key side text out (Refused m) = Refuses a out m
-Owes a f s key side text out (Fine x) = (x ≡ s) × Passes f s key side text out
+abbrev pub Owes : (a : Answer) (f : Call) (s : Suite) (key side text : Value) (out : List ℕ) → Result Suite Refusal → Type 0
+Owes a f s key side text out (Err r) = Refuses a out (table r)
+Owes a f s key side text out (Ok x) = (x ≡ s) × Passes f s key side text out
 
 -- two chains of the same tests
-both_orders : (P : Answer → Judged → Type 0) (t2 t3 t4 t6 t5 t7 : Bool) (a : Answer) (j : Judged) → ((m : ℕ) → P (refused m) (Refused m))
+both_orders : (P : Answer → Result Suite Refusal → Type 0) (t2 t3 t4 t6 t5 t7 : Bool) (a : Answer) (j : Result Suite Refusal) → ((r : Refusal) → P (refused (table r)) (Err r))
     → (Ordered t2 t3 t4 t6 t5 t7 a ≡ a → P a j)
-    → P (Ordered t2 t3 t4 t6 t5 t7 a) (pick t2 (Refused 2) (pick t3 (Refused 3) (pick t4 (Refused 4) (pick t6 (Refused 6) (pick t5 (Refused 5) (pick t7 (Refused 7) j))))))
-unfolding pick
-both_orders P true t3 t4 t6 t5 t7 a j r h = r 2
-both_orders P false true t4 t6 t5 t7 a j r h = r 3
-both_orders P false false true t6 t5 t7 a j r h = r 4
-both_orders P false false false true t5 t7 a j r h = r 6
-both_orders P false false false false true t7 a j r h = r 5
-both_orders P false false false false false true a j r h = r 7
+    → P (Ordered t2 t3 t4 t6 t5 t7 a) (pick t2 (Err refusals.Key) (pick t3 (Err refusals.Iv) (pick t4 (Err refusals.Empty) (pick t6 (Err refusals.Long) (pick t5 (Err refusals.Partial) (pick t7 (Err refusals.Tag) j))))))
+unfolding pick table
+both_orders P true t3 t4 t6 t5 t7 a j r h = r refusals.Key
+both_orders P false true t4 t6 t5 t7 a j r h = r refusals.Iv
+both_orders P false false true t6 t5 t7 a j r h = r refusals.Empty
+both_orders P false false false true t5 t7 a j r h = r refusals.Long
+both_orders P false false false false true t7 a j r h = r refusals.Partial
+both_orders P false false false false false true a j r h = r refusals.Tag
 both_orders P false false false false false false a j r h = h refl
 
 -- the room: `uncbp` has none to ask for beforehand
-room_owes : (n : ℕ) (f : Call) (s : Suite) (key side text : Value) (out : List ℕ) → suite_of n ≡ Known s → Past f s key side text → (b : Bool)
-    → ltb (length out) (length_before f (block_bytes s) (length text)) ≡ b → Owes (Makes f s key side text) f s key side text out (pick b (Refused 9) (Fine s))
-unfolding pick
+room_owes : (n : ℕ) (f : Call) (s : Suite) (key side text : Value) (out : List ℕ) → suite_of n ≡ Some s → Past f s key side text → (b : Bool)
+    → ltb (length out) (length_before f (block_bytes s) (length text)) ≡ b → Owes (Makes f s key side text) f s key side text out (pick b (Err refusals.Room) (Ok s))
+unfolding pick table
 room_owes n f s key side text out k p true e = record { delivered = short }
   where
     less : length out < length_before f (block_bytes s) (length text)
@@ -157,11 +157,11 @@ room_owes n f s key side text out k p true e = record { delivered = short }
     short = ap (λ a. deliver a out) l.is ∙ deliver_short l.what out (omega (arith, l.long, less))
 room_owes n f s key side text out k p false e = (refl, record { past = p; room = ltb-false _ _ e })
 
-refuses : (out : List ℕ) (m : ℕ) → Refuses (refused m) out m
+refuses : (out : List ℕ) (r : Refusal) → Refuses (refused (table r)) out (table r)
 unfolding deliver
-refuses out m = record { delivered = refl }
+refuses out r = record { delivered = refl }
 
-pub judged_owes : (n : ℕ) (f : Call) (s : Suite) (key side text : Value) (out : List ℕ) → suite_of n ≡ Known s
+pub judged_owes : (n : ℕ) (f : Call) (s : Suite) (key side text : Value) (out : List ℕ) → suite_of n ≡ Some s
     → Owes (checked f s key side text) f s key side text out (judged_for f s (length key) (length side) (length text) (length out))
 unfolding checked judged_for
 judged_owes n f s key side text out k =
@@ -173,39 +173,36 @@ judged_owes n f s key side text out k =
 -- ---- the same of a suite number
 
 -- the number of a refusal is what the cell delivers
-pub judged_refused : (f : Call) (n : ℕ) (key side text : Value) (out : List ℕ) (m : ℕ) → judged_of f n (length key) (length side) (length text) (length out) ≡ Refused m
-    → deliver (cell f n key side text) out ≡ refusal m out
-unfolding judged_of judged_named deliver
-judged_refused f n key side text out m e = go (suite_of n) refl e
+pub judged_refused : (f : Call) (n : ℕ) (key side text : Value) (out : List ℕ) (r : Refusal) → judged_of f n (length key) (length side) (length text) (length out) ≡ Err r
+    → deliver (cell f n key side text) out ≡ refusal (table r) out
+unfolding judged_of judged_named deliver table
+judged_refused f n key side text out r e = go (suite_of n) refl e
   where
-    one : (a b : ℕ) → Refused a ≡ Refused b → a ≡ b
+    one : (a b : Refusal) → ◌≡◌ {A = Result Suite Refusal} (Err a) (Err b) → a ≡ b
     one a b q = cc
 
-    go : (x : Named) → suite_of n ≡ x → judged_named f x (length key) (length side) (length text) (length out) ≡ Refused m → deliver (cell f n key side text) out ≡ refusal m out
-    go (Known s) k q =
+    go : (x : Option Suite) → suite_of n ≡ x → judged_named f x (length key) (length side) (length text) (length out) ≡ Err r → deliver (cell f n key side text) out ≡ refusal (table r) out
+    go (Some s) k q =
         ap (λ a. deliver a out) (cell_known f n s key side text k)
         ∙ (subst (Owes (checked f s key side text) f s key side text out) q (judged_owes n f s key side text out k)).delivered
-    go Unknown k q = ap (λ a. deliver a out) (cell_unknown f n key side text k) ∙ ap (λ i. refusal i out) (one 1 m q)
+    go None k q = ap (λ a. deliver a out) (cell_unknown f n key side text k) ∙ ap (λ i. refusal (table i) out) (one refusals.Suite r q)
 
 -- past the checks
-pub judged_fine : (f : Call) (n : ℕ) (s : Suite) (key side text : Value) (out : List ℕ) → judged_of f n (length key) (length side) (length text) (length out) ≡ Fine s
-    → (suite_of n ≡ Known s) × Cleared f s (length key) (length side) (length text) (length out)
+pub judged_fine : (f : Call) (n : ℕ) (s : Suite) (key side text : Value) (out : List ℕ) → judged_of f n (length key) (length side) (length text) (length out) ≡ Ok s
+    → (suite_of n ≡ Some s) × Cleared f s (length key) (length side) (length text) (length out)
 unfolding judged_of judged_named
 judged_fine f n s key side text out e = go (suite_of n) refl e
   where
-    fine_one : (a b : Suite) → Fine a ≡ Fine b → a ≡ b
-    fine_one a b q = cc
-
-    never : (r : ℕ) → Refused r ≡ Fine s → ⊥
+    never : (r : Refusal) → ◌≡◌ {A = Result Suite Refusal} (Err r) (Ok s) → ⊥
     never r q = let z : ◌≡◌ {A = ℕ} 0 1 = cc in omega arith
 
-    go : (x : Named) → suite_of n ≡ x → judged_named f x (length key) (length side) (length text) (length out) ≡ Fine s
-        → (suite_of n ≡ Known s) × Cleared f s (length key) (length side) (length text) (length out)
-    go (Known x) k q = at (subst (Owes (checked f x key side text) f x key side text out) q (judged_owes n f x key side text out k)).0
+    go : (x : Option Suite) → suite_of n ≡ x → judged_named f x (length key) (length side) (length text) (length out) ≡ Ok s
+        → (suite_of n ≡ Some s) × Cleared f s (length key) (length side) (length text) (length out)
+    go (Some x) k q = at (subst (Owes (checked f x key side text) f x key side text out) q (judged_owes n f x key side text out k)).0
       where
-        at : s ≡ x → (suite_of n ≡ Known s) × Cleared f s (length key) (length side) (length text) (length out)
-        at es = (k ∙ ap Known (sym es), record { number = n; known = k ∙ ap Known (sym es); fine = ap (λ y. judged_for f y (length key) (length side) (length text) (length out)) es ∙ q })
-    go Unknown k q = absurd (never 1 q)
+        at : s ≡ x → (suite_of n ≡ Some s) × Cleared f s (length key) (length side) (length text) (length out)
+        at es = (k ∙ ap Some (sym es), record { number = n; known = k ∙ ap Some (sym es); fine = ap (λ y. judged_for f y (length key) (length side) (length text) (length out)) es ∙ q })
+    go None k q = absurd (never refusals.Suite q)
 
 -- what being past them gives
 pub cleared_passes : (f : Call) (s : Suite) (key side text : Value) (out : List ℕ) → Cleared f s (length key) (length side) (length text) (length out) → Passes f s key side text out
@@ -213,6 +210,6 @@ cleared_passes f s key side text out c =
     (subst (Owes (checked f s key side text) f s key side text out) c.fine (judged_owes c.number f s key side text out c.known)).1
 
 -- and what the cell then answers
-pub cleared_cell : (f : Call) (n : ℕ) (s : Suite) (key side text : Value) (out : List ℕ) → suite_of n ≡ Known s → Cleared f s (length key) (length side) (length text) (length out)
+pub cleared_cell : (f : Call) (n : ℕ) (s : Suite) (key side text : Value) (out : List ℕ) → suite_of n ≡ Some s → Cleared f s (length key) (length side) (length text) (length out)
     → cell f n key side text ≡ Makes f s key side text
 cleared_cell f n s key side text out k c = cell_known f n s key side text k ∙ passed f s key side text (cleared_passes f s key side text out c).past

@@ -13,81 +13,77 @@ use Rattle.modes.specs.Cell.{side_of, shape_of, call_of, iv_wrong, text_empty, t
 use Rattle.judging.specs.Order.{length_before}
 use Rattle.judging.proofs.Calls.{by_call}
 
-pub iv_early : (f : ℕ) (b n : ℕ) → f < 2 → false ≡ iv_wrong (side_of (call_of f)) b n
-unfolding iv_wrong side_of
-iv_early f b n = by_call (λ g k. g < 2 → false ≡ iv_wrong (side_of k) b n) (λ l0. refl) (λ l0. refl) (λ l0. let z : ⊥ = omega arith in absurd z) (λ l0. let z : ⊥ = omega arith in absurd z) (λ l0. let z : ⊥ = omega arith in absurd z) (λ l0. let z : ⊥ = omega arith in absurd z) (λ l0. let z : ⊥ = omega arith in absurd z) (λ l0. let z : ⊥ = omega arith in absurd z) (λ l0. let z : ⊥ = omega arith in absurd z) (λ l0. let z : ⊥ = omega arith in absurd z) (λ l0. refl) (λ g m. λ l0. refl) f
-
 pub iv_taken : (f : ℕ) (b n : ℕ) → 2 ≤ f → f < 10 → not (eqb n b) ≡ iv_wrong (side_of (call_of f)) b n
 unfolding iv_wrong side_of
-iv_taken f b n = by_call (λ g k. 2 ≤ g → g < 10 → not (eqb n b) ≡ iv_wrong (side_of k) b n) (λ l0 l1. let z : ⊥ = omega arith in absurd z) (λ l0 l1. let z : ⊥ = omega arith in absurd z) (λ l0 l1. refl) (λ l0 l1. refl) (λ l0 l1. refl) (λ l0 l1. refl) (λ l0 l1. refl) (λ l0 l1. refl) (λ l0 l1. refl) (λ l0 l1. refl) (λ l0 l1. let z : ⊥ = omega arith in absurd z) (λ g m. λ l0 l1. let z : ⊥ = omega arith in absurd z) f
+iv_taken f b n = by_call (λ g k. 2 ≤ g → g < 10 → not (eqb n b) ≡ iv_wrong (side_of k) b n) (λ l0 l1. absurd (omega arith)) (λ l0 l1. absurd (omega arith)) (λ l0 l1. refl) (λ l0 l1. refl) (λ l0 l1. refl) (λ l0 l1. refl) (λ l0 l1. refl) (λ l0 l1. refl) (λ l0 l1. refl) (λ l0 l1. refl) (λ l0 l1. absurd (omega arith)) (λ g m. λ l0 l1. absurd (omega arith)) f
 
-pub iv_late : (f : ℕ) (b n : ℕ) → 10 ≤ f → false ≡ iv_wrong (side_of (call_of f)) b n
+pub iv_none : (f : ℕ) (b n : ℕ) → (2 ≤ f → 10 ≤ f) → false ≡ iv_wrong (side_of (call_of f)) b n
 unfolding iv_wrong side_of
-iv_late f b n = by_call (λ g k. 10 ≤ g → false ≡ iv_wrong (side_of k) b n) (λ l0. refl) (λ l0. refl) (λ l0. let z : ⊥ = omega arith in absurd z) (λ l0. let z : ⊥ = omega arith in absurd z) (λ l0. let z : ⊥ = omega arith in absurd z) (λ l0. let z : ⊥ = omega arith in absurd z) (λ l0. let z : ⊥ = omega arith in absurd z) (λ l0. let z : ⊥ = omega arith in absurd z) (λ l0. let z : ⊥ = omega arith in absurd z) (λ l0. let z : ⊥ = omega arith in absurd z) (λ l0. refl) (λ g m. λ l0. refl) f
+iv_none f b n = by_call (λ g k. (2 ≤ g → 10 ≤ g) → false ≡ iv_wrong (side_of k) b n) (λ h. refl) (λ h. refl) (λ h. absurd (omega (arith, h (omega arith)))) (λ h. absurd (omega (arith, h (omega arith)))) (λ h. absurd (omega (arith, h (omega arith)))) (λ h. absurd (omega (arith, h (omega arith)))) (λ h. absurd (omega (arith, h (omega arith)))) (λ h. absurd (omega (arith, h (omega arith)))) (λ h. absurd (omega (arith, h (omega arith)))) (λ h. absurd (omega (arith, h (omega arith)))) (λ h. refl) (λ g m h. refl) f
 
 pub empty_block : (f : ℕ) (n : ℕ) → f < 2 → false ≡ text_empty (shape_of (call_of f)) n
 unfolding text_empty shape_of
-empty_block f n = by_call (λ g k. g < 2 → false ≡ text_empty (shape_of k) n) (λ l0. refl) (λ l0. refl) (λ l0. let z : ⊥ = omega arith in absurd z) (λ l0. let z : ⊥ = omega arith in absurd z) (λ l0. let z : ⊥ = omega arith in absurd z) (λ l0. let z : ⊥ = omega arith in absurd z) (λ l0. let z : ⊥ = omega arith in absurd z) (λ l0. let z : ⊥ = omega arith in absurd z) (λ l0. let z : ⊥ = omega arith in absurd z) (λ l0. let z : ⊥ = omega arith in absurd z) (λ l0. let z : ⊥ = omega arith in absurd z) (λ g m. λ l0. let z : ⊥ = omega arith in absurd z) f
+empty_block f n = by_call (λ g k. g < 2 → false ≡ text_empty (shape_of k) n) (λ l0. refl) (λ l0. refl) (λ l0. absurd (omega arith)) (λ l0. absurd (omega arith)) (λ l0. absurd (omega arith)) (λ l0. absurd (omega arith)) (λ l0. absurd (omega arith)) (λ l0. absurd (omega arith)) (λ l0. absurd (omega arith)) (λ l0. absurd (omega arith)) (λ l0. absurd (omega arith)) (λ g m. λ l0. absurd (omega arith)) f
 
 pub empty_text : (f : ℕ) (n : ℕ) → 2 ≤ f → eqb n 0 ≡ text_empty (shape_of (call_of f)) n
 unfolding text_empty shape_of
-empty_text f n = by_call (λ g k. 2 ≤ g → eqb n 0 ≡ text_empty (shape_of k) n) (λ l0. let z : ⊥ = omega arith in absurd z) (λ l0. let z : ⊥ = omega arith in absurd z) (λ l0. refl) (λ l0. refl) (λ l0. refl) (λ l0. refl) (λ l0. refl) (λ l0. refl) (λ l0. refl) (λ l0. refl) (λ l0. refl) (λ g m. λ l0. refl) f
+empty_text f n = by_call (λ g k. 2 ≤ g → eqb n 0 ≡ text_empty (shape_of k) n) (λ l0. absurd (omega arith)) (λ l0. absurd (omega arith)) (λ l0. refl) (λ l0. refl) (λ l0. refl) (λ l0. refl) (λ l0. refl) (λ l0. refl) (λ l0. refl) (λ l0. refl) (λ l0. refl) (λ g m. λ l0. refl) f
 
 pub long_block : (f : ℕ) (b n : ℕ) → f < 2 → false ≡ text_long (shape_of (call_of f)) b n
 unfolding text_long shape_of
-long_block f b n = by_call (λ g k. g < 2 → false ≡ text_long (shape_of k) b n) (λ l0. refl) (λ l0. refl) (λ l0. let z : ⊥ = omega arith in absurd z) (λ l0. let z : ⊥ = omega arith in absurd z) (λ l0. let z : ⊥ = omega arith in absurd z) (λ l0. let z : ⊥ = omega arith in absurd z) (λ l0. let z : ⊥ = omega arith in absurd z) (λ l0. let z : ⊥ = omega arith in absurd z) (λ l0. let z : ⊥ = omega arith in absurd z) (λ l0. let z : ⊥ = omega arith in absurd z) (λ l0. let z : ⊥ = omega arith in absurd z) (λ g m. λ l0. let z : ⊥ = omega arith in absurd z) f
+long_block f b n = by_call (λ g k. g < 2 → false ≡ text_long (shape_of k) b n) (λ l0. refl) (λ l0. refl) (λ l0. absurd (omega arith)) (λ l0. absurd (omega arith)) (λ l0. absurd (omega arith)) (λ l0. absurd (omega arith)) (λ l0. absurd (omega arith)) (λ l0. absurd (omega arith)) (λ l0. absurd (omega arith)) (λ l0. absurd (omega arith)) (λ l0. absurd (omega arith)) (λ g m. λ l0. absurd (omega arith)) f
 
 pub long_text : (f : ℕ) (b n : ℕ) → 2 ≤ f → (f ≡ 8 → ⊥) → ltb 1024 n ≡ text_long (shape_of (call_of f)) b n
 unfolding text_long shape_of
-long_text f b n = by_call (λ g k. 2 ≤ g → (g ≡ 8 → ⊥) → ltb 1024 n ≡ text_long (shape_of k) b n) (λ l0 l1. let z : ⊥ = omega arith in absurd z) (λ l0 l1. let z : ⊥ = omega arith in absurd z) (λ l0 l1. refl) (λ l0 l1. refl) (λ l0 l1. refl) (λ l0 l1. refl) (λ l0 l1. refl) (λ l0 l1. refl) (λ l0 l1. let z : ⊥ = omega arith in absurd z) (λ l0 l1. refl) (λ l0 l1. refl) (λ g m. λ l0 l1. refl) f
+long_text f b n = by_call (λ g k. 2 ≤ g → (g ≡ 8 → ⊥) → ltb 1024 n ≡ text_long (shape_of k) b n) (λ l0 l1. absurd (omega arith)) (λ l0 l1. absurd (omega arith)) (λ l0 l1. refl) (λ l0 l1. refl) (λ l0 l1. refl) (λ l0 l1. refl) (λ l0 l1. refl) (λ l0 l1. refl) (λ l0 l1. absurd (omega arith)) (λ l0 l1. refl) (λ l0 l1. refl) (λ g m. λ l0 l1. refl) f
 
 pub long_filled : (f : ℕ) (b n : ℕ) → f ≡ 8 → ltb 1024 (b * (n / b + 1)) ≡ text_long (shape_of (call_of f)) b n
 unfolding text_long shape_of
-long_filled f b n = by_call (λ g k. g ≡ 8 → ltb 1024 (b * (n / b + 1)) ≡ text_long (shape_of k) b n) (λ l0. let z : ⊥ = omega arith in absurd z) (λ l0. let z : ⊥ = omega arith in absurd z) (λ l0. let z : ⊥ = omega arith in absurd z) (λ l0. let z : ⊥ = omega arith in absurd z) (λ l0. let z : ⊥ = omega arith in absurd z) (λ l0. let z : ⊥ = omega arith in absurd z) (λ l0. let z : ⊥ = omega arith in absurd z) (λ l0. let z : ⊥ = omega arith in absurd z) (λ l0. refl) (λ l0. let z : ⊥ = omega arith in absurd z) (λ l0. let z : ⊥ = omega arith in absurd z) (λ g m. λ l0. let z : ⊥ = omega arith in absurd z) f
+long_filled f b n = by_call (λ g k. g ≡ 8 → ltb 1024 (b * (n / b + 1)) ≡ text_long (shape_of k) b n) (λ l0. absurd (omega arith)) (λ l0. absurd (omega arith)) (λ l0. absurd (omega arith)) (λ l0. absurd (omega arith)) (λ l0. absurd (omega arith)) (λ l0. absurd (omega arith)) (λ l0. absurd (omega arith)) (λ l0. absurd (omega arith)) (λ l0. refl) (λ l0. absurd (omega arith)) (λ l0. absurd (omega arith)) (λ g m. λ l0. absurd (omega arith)) f
 
 pub partial_block : (f : ℕ) (b n : ℕ) → f < 2 → not (eqb n b) ≡ text_partial (shape_of (call_of f)) b n
 unfolding text_partial shape_of
-partial_block f b n = by_call (λ g k. g < 2 → not (eqb n b) ≡ text_partial (shape_of k) b n) (λ l0. refl) (λ l0. refl) (λ l0. let z : ⊥ = omega arith in absurd z) (λ l0. let z : ⊥ = omega arith in absurd z) (λ l0. let z : ⊥ = omega arith in absurd z) (λ l0. let z : ⊥ = omega arith in absurd z) (λ l0. let z : ⊥ = omega arith in absurd z) (λ l0. let z : ⊥ = omega arith in absurd z) (λ l0. let z : ⊥ = omega arith in absurd z) (λ l0. let z : ⊥ = omega arith in absurd z) (λ l0. let z : ⊥ = omega arith in absurd z) (λ g m. λ l0. let z : ⊥ = omega arith in absurd z) f
+partial_block f b n = by_call (λ g k. g < 2 → not (eqb n b) ≡ text_partial (shape_of k) b n) (λ l0. refl) (λ l0. refl) (λ l0. absurd (omega arith)) (λ l0. absurd (omega arith)) (λ l0. absurd (omega arith)) (λ l0. absurd (omega arith)) (λ l0. absurd (omega arith)) (λ l0. absurd (omega arith)) (λ l0. absurd (omega arith)) (λ l0. absurd (omega arith)) (λ l0. absurd (omega arith)) (λ g m. λ l0. absurd (omega arith)) f
 
 pub partial_whole : (f : ℕ) (b n : ℕ) → 6 ≤ f → f < 10 → (f ≡ 8 → ⊥) → not (eqb (n % b) 0) ≡ text_partial (shape_of (call_of f)) b n
 unfolding text_partial shape_of
-partial_whole f b n = by_call (λ g k. 6 ≤ g → g < 10 → (g ≡ 8 → ⊥) → not (eqb (n % b) 0) ≡ text_partial (shape_of k) b n) (λ l0 l1 l2. let z : ⊥ = omega arith in absurd z) (λ l0 l1 l2. let z : ⊥ = omega arith in absurd z) (λ l0 l1 l2. let z : ⊥ = omega arith in absurd z) (λ l0 l1 l2. let z : ⊥ = omega arith in absurd z) (λ l0 l1 l2. let z : ⊥ = omega arith in absurd z) (λ l0 l1 l2. let z : ⊥ = omega arith in absurd z) (λ l0 l1 l2. refl) (λ l0 l1 l2. refl) (λ l0 l1 l2. let z : ⊥ = omega arith in absurd z) (λ l0 l1 l2. refl) (λ l0 l1 l2. let z : ⊥ = omega arith in absurd z) (λ g m. λ l0 l1 l2. let z : ⊥ = omega arith in absurd z) f
+partial_whole f b n = by_call (λ g k. 6 ≤ g → g < 10 → (g ≡ 8 → ⊥) → not (eqb (n % b) 0) ≡ text_partial (shape_of k) b n) (λ l0 l1 l2. absurd (omega arith)) (λ l0 l1 l2. absurd (omega arith)) (λ l0 l1 l2. absurd (omega arith)) (λ l0 l1 l2. absurd (omega arith)) (λ l0 l1 l2. absurd (omega arith)) (λ l0 l1 l2. absurd (omega arith)) (λ l0 l1 l2. refl) (λ l0 l1 l2. refl) (λ l0 l1 l2. absurd (omega arith)) (λ l0 l1 l2. refl) (λ l0 l1 l2. absurd (omega arith)) (λ g m. λ l0 l1 l2. absurd (omega arith)) f
 
 pub partial_none : (f : ℕ) (b n : ℕ) → 2 ≤ f → (f ≡ 6 → ⊥) → (f ≡ 7 → ⊥) → (f ≡ 9 → ⊥) → false ≡ text_partial (shape_of (call_of f)) b n
 unfolding text_partial shape_of
-partial_none f b n = by_call (λ g k. 2 ≤ g → (g ≡ 6 → ⊥) → (g ≡ 7 → ⊥) → (g ≡ 9 → ⊥) → false ≡ text_partial (shape_of k) b n) (λ l0 l1 l2 l3. let z : ⊥ = omega arith in absurd z) (λ l0 l1 l2 l3. let z : ⊥ = omega arith in absurd z) (λ l0 l1 l2 l3. refl) (λ l0 l1 l2 l3. refl) (λ l0 l1 l2 l3. refl) (λ l0 l1 l2 l3. refl) (λ l0 l1 l2 l3. let z : ⊥ = omega arith in absurd z) (λ l0 l1 l2 l3. let z : ⊥ = omega arith in absurd z) (λ l0 l1 l2 l3. refl) (λ l0 l1 l2 l3. let z : ⊥ = omega arith in absurd z) (λ l0 l1 l2 l3. refl) (λ g m. λ l0 l1 l2 l3. refl) f
+partial_none f b n = by_call (λ g k. 2 ≤ g → (g ≡ 6 → ⊥) → (g ≡ 7 → ⊥) → (g ≡ 9 → ⊥) → false ≡ text_partial (shape_of k) b n) (λ l0 l1 l2 l3. absurd (omega arith)) (λ l0 l1 l2 l3. absurd (omega arith)) (λ l0 l1 l2 l3. refl) (λ l0 l1 l2 l3. refl) (λ l0 l1 l2 l3. refl) (λ l0 l1 l2 l3. refl) (λ l0 l1 l2 l3. absurd (omega arith)) (λ l0 l1 l2 l3. absurd (omega arith)) (λ l0 l1 l2 l3. refl) (λ l0 l1 l2 l3. absurd (omega arith)) (λ l0 l1 l2 l3. refl) (λ g m. λ l0 l1 l2 l3. refl) f
 
 pub tag_none : (f : ℕ) (b n : ℕ) → f < 11 → false ≡ tag_wrong (side_of (call_of f)) b n
 unfolding tag_wrong side_of
-tag_none f b n = by_call (λ g k. g < 11 → false ≡ tag_wrong (side_of k) b n) (λ l0. refl) (λ l0. refl) (λ l0. refl) (λ l0. refl) (λ l0. refl) (λ l0. refl) (λ l0. refl) (λ l0. refl) (λ l0. refl) (λ l0. refl) (λ l0. refl) (λ g m. λ l0. let z : ⊥ = omega arith in absurd z) f
+tag_none f b n = by_call (λ g k. g < 11 → false ≡ tag_wrong (side_of k) b n) (λ l0. refl) (λ l0. refl) (λ l0. refl) (λ l0. refl) (λ l0. refl) (λ l0. refl) (λ l0. refl) (λ l0. refl) (λ l0. refl) (λ l0. refl) (λ l0. refl) (λ g m. λ l0. absurd (omega arith)) f
 
 pub tag_taken : (f : ℕ) (b n : ℕ) → 11 ≤ f → pick (leb 8 n) (not (leb n b)) true ≡ tag_wrong (side_of (call_of f)) b n
 unfolding tag_wrong side_of
-tag_taken f b n = by_call (λ g k. 11 ≤ g → pick (leb 8 n) (not (leb n b)) true ≡ tag_wrong (side_of k) b n) (λ l0. let z : ⊥ = omega arith in absurd z) (λ l0. let z : ⊥ = omega arith in absurd z) (λ l0. let z : ⊥ = omega arith in absurd z) (λ l0. let z : ⊥ = omega arith in absurd z) (λ l0. let z : ⊥ = omega arith in absurd z) (λ l0. let z : ⊥ = omega arith in absurd z) (λ l0. let z : ⊥ = omega arith in absurd z) (λ l0. let z : ⊥ = omega arith in absurd z) (λ l0. let z : ⊥ = omega arith in absurd z) (λ l0. let z : ⊥ = omega arith in absurd z) (λ l0. let z : ⊥ = omega arith in absurd z) (λ g m. λ l0. refl) f
+tag_taken f b n = by_call (λ g k. 11 ≤ g → pick (leb 8 n) (not (leb n b)) true ≡ tag_wrong (side_of k) b n) (λ l0. absurd (omega arith)) (λ l0. absurd (omega arith)) (λ l0. absurd (omega arith)) (λ l0. absurd (omega arith)) (λ l0. absurd (omega arith)) (λ l0. absurd (omega arith)) (λ l0. absurd (omega arith)) (λ l0. absurd (omega arith)) (λ l0. absurd (omega arith)) (λ l0. absurd (omega arith)) (λ l0. absurd (omega arith)) (λ g m. λ l0. refl) f
 
 pub length_block : (f : ℕ) (b n : ℕ) → f < 2 → b ≡ length_before (call_of f) b n
 unfolding length_before
-length_block f b n = by_call (λ g k. g < 2 → b ≡ length_before k b n) (λ l0. refl) (λ l0. refl) (λ l0. let z : ⊥ = omega arith in absurd z) (λ l0. let z : ⊥ = omega arith in absurd z) (λ l0. let z : ⊥ = omega arith in absurd z) (λ l0. let z : ⊥ = omega arith in absurd z) (λ l0. let z : ⊥ = omega arith in absurd z) (λ l0. let z : ⊥ = omega arith in absurd z) (λ l0. let z : ⊥ = omega arith in absurd z) (λ l0. let z : ⊥ = omega arith in absurd z) (λ l0. refl) (λ g m. λ l0. let z : ⊥ = omega arith in absurd z) f
+length_block f b n = by_call (λ g k. g < 2 → b ≡ length_before k b n) (λ l0. refl) (λ l0. refl) (λ l0. absurd (omega arith)) (λ l0. absurd (omega arith)) (λ l0. absurd (omega arith)) (λ l0. absurd (omega arith)) (λ l0. absurd (omega arith)) (λ l0. absurd (omega arith)) (λ l0. absurd (omega arith)) (λ l0. absurd (omega arith)) (λ l0. refl) (λ g m. λ l0. absurd (omega arith)) f
 
 pub length_text : (f : ℕ) (b n : ℕ) → 2 ≤ f → f < 8 → n ≡ length_before (call_of f) b n
 unfolding length_before
-length_text f b n = by_call (λ g k. 2 ≤ g → g < 8 → n ≡ length_before k b n) (λ l0 l1. let z : ⊥ = omega arith in absurd z) (λ l0 l1. let z : ⊥ = omega arith in absurd z) (λ l0 l1. refl) (λ l0 l1. refl) (λ l0 l1. refl) (λ l0 l1. refl) (λ l0 l1. refl) (λ l0 l1. refl) (λ l0 l1. let z : ⊥ = omega arith in absurd z) (λ l0 l1. let z : ⊥ = omega arith in absurd z) (λ l0 l1. let z : ⊥ = omega arith in absurd z) (λ g m. λ l0 l1. let z : ⊥ = omega arith in absurd z) f
+length_text f b n = by_call (λ g k. 2 ≤ g → g < 8 → n ≡ length_before k b n) (λ l0 l1. absurd (omega arith)) (λ l0 l1. absurd (omega arith)) (λ l0 l1. refl) (λ l0 l1. refl) (λ l0 l1. refl) (λ l0 l1. refl) (λ l0 l1. refl) (λ l0 l1. refl) (λ l0 l1. absurd (omega arith)) (λ l0 l1. absurd (omega arith)) (λ l0 l1. absurd (omega arith)) (λ g m. λ l0 l1. absurd (omega arith)) f
 
 pub length_filled : (f : ℕ) (b n : ℕ) → f ≡ 8 → b * (n / b + 1) ≡ length_before (call_of f) b n
 unfolding length_before
-length_filled f b n = by_call (λ g k. g ≡ 8 → b * (n / b + 1) ≡ length_before k b n) (λ l0. let z : ⊥ = omega arith in absurd z) (λ l0. let z : ⊥ = omega arith in absurd z) (λ l0. let z : ⊥ = omega arith in absurd z) (λ l0. let z : ⊥ = omega arith in absurd z) (λ l0. let z : ⊥ = omega arith in absurd z) (λ l0. let z : ⊥ = omega arith in absurd z) (λ l0. let z : ⊥ = omega arith in absurd z) (λ l0. let z : ⊥ = omega arith in absurd z) (λ l0. refl) (λ l0. let z : ⊥ = omega arith in absurd z) (λ l0. let z : ⊥ = omega arith in absurd z) (λ g m. λ l0. let z : ⊥ = omega arith in absurd z) f
+length_filled f b n = by_call (λ g k. g ≡ 8 → b * (n / b + 1) ≡ length_before k b n) (λ l0. absurd (omega arith)) (λ l0. absurd (omega arith)) (λ l0. absurd (omega arith)) (λ l0. absurd (omega arith)) (λ l0. absurd (omega arith)) (λ l0. absurd (omega arith)) (λ l0. absurd (omega arith)) (λ l0. absurd (omega arith)) (λ l0. refl) (λ l0. absurd (omega arith)) (λ l0. absurd (omega arith)) (λ g m. λ l0. absurd (omega arith)) f
 
 pub length_unfilled : (f : ℕ) (b n : ℕ) → f ≡ 9 → 0 ≡ length_before (call_of f) b n
 unfolding length_before
-length_unfilled f b n = by_call (λ g k. g ≡ 9 → 0 ≡ length_before k b n) (λ l0. let z : ⊥ = omega arith in absurd z) (λ l0. let z : ⊥ = omega arith in absurd z) (λ l0. let z : ⊥ = omega arith in absurd z) (λ l0. let z : ⊥ = omega arith in absurd z) (λ l0. let z : ⊥ = omega arith in absurd z) (λ l0. let z : ⊥ = omega arith in absurd z) (λ l0. let z : ⊥ = omega arith in absurd z) (λ l0. let z : ⊥ = omega arith in absurd z) (λ l0. let z : ⊥ = omega arith in absurd z) (λ l0. refl) (λ l0. let z : ⊥ = omega arith in absurd z) (λ g m. λ l0. let z : ⊥ = omega arith in absurd z) f
+length_unfilled f b n = by_call (λ g k. g ≡ 9 → 0 ≡ length_before k b n) (λ l0. absurd (omega arith)) (λ l0. absurd (omega arith)) (λ l0. absurd (omega arith)) (λ l0. absurd (omega arith)) (λ l0. absurd (omega arith)) (λ l0. absurd (omega arith)) (λ l0. absurd (omega arith)) (λ l0. absurd (omega arith)) (λ l0. absurd (omega arith)) (λ l0. refl) (λ l0. absurd (omega arith)) (λ g m. λ l0. absurd (omega arith)) f
 
 pub length_tag : (f : ℕ) (b n : ℕ) → f ≡ 10 → b ≡ length_before (call_of f) b n
 unfolding length_before
-length_tag f b n = by_call (λ g k. g ≡ 10 → b ≡ length_before k b n) (λ l0. refl) (λ l0. refl) (λ l0. let z : ⊥ = omega arith in absurd z) (λ l0. let z : ⊥ = omega arith in absurd z) (λ l0. let z : ⊥ = omega arith in absurd z) (λ l0. let z : ⊥ = omega arith in absurd z) (λ l0. let z : ⊥ = omega arith in absurd z) (λ l0. let z : ⊥ = omega arith in absurd z) (λ l0. let z : ⊥ = omega arith in absurd z) (λ l0. let z : ⊥ = omega arith in absurd z) (λ l0. refl) (λ g m. λ l0. let z : ⊥ = omega arith in absurd z) f
+length_tag f b n = by_call (λ g k. g ≡ 10 → b ≡ length_before k b n) (λ l0. refl) (λ l0. refl) (λ l0. absurd (omega arith)) (λ l0. absurd (omega arith)) (λ l0. absurd (omega arith)) (λ l0. absurd (omega arith)) (λ l0. absurd (omega arith)) (λ l0. absurd (omega arith)) (λ l0. absurd (omega arith)) (λ l0. absurd (omega arith)) (λ l0. refl) (λ g m. λ l0. absurd (omega arith)) f
 
 pub length_yes : (f : ℕ) (b n : ℕ) → 11 ≤ f → 1 ≡ length_before (call_of f) b n
 unfolding length_before
-length_yes f b n = by_call (λ g k. 11 ≤ g → 1 ≡ length_before k b n) (λ l0. let z : ⊥ = omega arith in absurd z) (λ l0. let z : ⊥ = omega arith in absurd z) (λ l0. let z : ⊥ = omega arith in absurd z) (λ l0. let z : ⊥ = omega arith in absurd z) (λ l0. let z : ⊥ = omega arith in absurd z) (λ l0. let z : ⊥ = omega arith in absurd z) (λ l0. let z : ⊥ = omega arith in absurd z) (λ l0. let z : ⊥ = omega arith in absurd z) (λ l0. let z : ⊥ = omega arith in absurd z) (λ l0. let z : ⊥ = omega arith in absurd z) (λ l0. let z : ⊥ = omega arith in absurd z) (λ g m. λ l0. refl) f
+length_yes f b n = by_call (λ g k. 11 ≤ g → 1 ≡ length_before k b n) (λ l0. absurd (omega arith)) (λ l0. absurd (omega arith)) (λ l0. absurd (omega arith)) (λ l0. absurd (omega arith)) (λ l0. absurd (omega arith)) (λ l0. absurd (omega arith)) (λ l0. absurd (omega arith)) (λ l0. absurd (omega arith)) (λ l0. absurd (omega arith)) (λ l0. absurd (omega arith)) (λ l0. absurd (omega arith)) (λ g m. λ l0. refl) f
 
 -- blocks of b bytes fill 1,024 exactly, so the filled text is over it exactly where the text is not under
 pub filled_long : (b n : ℕ) → 0 < b → 1024 % b ≡ 0 → leb 1024 n ≡ ltb 1024 (b * (n / b + 1))

@@ -7,144 +7,135 @@ ghost use Rattle.suite_laws.specs.Row.{Row};
 ghost use Rattle.modes.specs.Cell.{call_of, side_of, shape_of, iv_wrong, text_empty, text_long, text_partial, tag_wrong};
 ghost use Rattle.judging.specs.Order.{length_before, judged_for, judged_of};
 
-use suites::{Bits, Named, Suite};
+use answers::Refusal;
+use suites::{Bits, Bytes, Suite};
 
-// A suite whose checks are all met, or the number of the refusal.
-#[derive(Drop)]
-pub enum Judged {
-    Fine(Suite),
-    Refused(u32),
-}
+// f stays a number: each one has an answer, and a narrower type would ask more of callers.
 
-// 3: calls 2 to 9 take an IV.
+// Iv: calls 2 to 9 take one.
+#[tactic(auto, using(crate::proofs::Tests::iv_none, crate::proofs::Tests::iv_taken))]
 fn iv_wrong(f: usize, b: usize, n: usize) -> bool
     ensures { result ≡ iv_wrong (side_of (call_of f)) b n }
 {
-    if f < 2 {
-        return false;
+    match f {
+        2..=9 => n != b,
+        _ => false,
     }
-    if f < 10 {
-        return n != b;
-    }
-    false
 }
 
-// 4: a block has only its own check.
+// Empty: a block has only its own check.
+#[tactic(auto, using(crate::proofs::Tests::empty_block, crate::proofs::Tests::empty_text))]
 fn text_empty(f: usize, n: usize) -> bool
     ensures { result ≡ text_empty (shape_of (call_of f)) n }
 {
-    if f < 2 {
-        return false;
+    match f {
+        0 | 1 => false,
+        _ => n == 0,
     }
-    n == 0
 }
 
-// 6: the result of `cbp` is over 1,024 bytes exactly where its text is not under.
+// Long: the result of `cbp` is over 1,024 bytes exactly where its text is not under.
+#[tactic(auto, using(crate::proofs::Tests::filled_long, crate::proofs::Tests::long_filled, crate::proofs::Tests::long_block, crate::proofs::Tests::long_text))]
 fn text_long(f: usize, b: usize, n: usize) -> bool
     requires { (0 < b) × (1024 % b ≡ 0) }
     ensures { result ≡ text_long (shape_of (call_of f)) b n }
 {
-    if f < 2 {
-        return false;
+    match f {
+        0 | 1 => false,
+        8 => 1024 <= n,
+        _ => 1024 < n,
     }
-    if f == 8 {
-        return 1024 <= n;
-    }
-    1024 < n
 }
 
-// 5: one block; whole blocks for calls 6, 7 and 9.
+// Partial: one block; whole blocks for calls 6, 7 and 9.
+#[tactic(auto, using(crate::proofs::Tests::partial_block, crate::proofs::Tests::partial_none, crate::proofs::Tests::partial_whole))]
 fn text_partial(f: usize, b: usize, n: usize) -> bool
     requires { 0 < b }
     ensures { result ≡ text_partial (shape_of (call_of f)) b n }
 {
-    if f < 2 {
-        return n != b;
+    match f {
+        0 | 1 => n != b,
+        6 | 7 | 9 => n % b != 0,
+        _ => false,
     }
-    if f == 6 {
-        return n % b != 0;
-    }
-    if f == 7 {
-        return n % b != 0;
-    }
-    if f == 9 {
-        return n % b != 0;
-    }
-    false
 }
 
-// 7: the standard's bound is 64 bits.
+// Tag: the standard's bound is 64 bits.
+#[tactic(auto, using(crate::proofs::Tests::tag_none, crate::proofs::Tests::tag_low, crate::proofs::Tests::tag_high, crate::proofs::Tests::tag_taken))]
 fn tag_wrong(f: usize, b: usize, n: usize) -> bool
     ensures { result ≡ tag_wrong (side_of (call_of f)) b n }
 {
-    if f < 11 {
-        return false;
+    match f {
+        0..=10 => false,
+        _ => n < Bytes::from(Bits(64)).0 || b < n,
     }
-    if n < suites::in_bytes(Bits(64)).0 {
-        return true;
-    }
-    b < n
 }
 
 // The length of the answer, as far as the text's length tells it: of `uncbp` it does not.
+#[tactic(auto, using(crate::proofs::Tests::length_filled, crate::proofs::Tests::length_unfilled, crate::proofs::Tests::length_text, crate::proofs::Tests::length_yes, crate::proofs::Tests::length_tag, crate::proofs::Tests::length_block, crate::proofs::Tests::quotient_small, crate::proofs::Tests::filled_small))]
 fn length_before(f: usize, b: usize, n: usize) -> usize
     requires { (0 < b) × (b ≤ 64) × (f ≡ 8 → n < 1024) }
     ensures { result ≡ length_before (call_of f) b n }
 {
-    if f < 2 {
-        return b;
+    match f {
+        0 | 1 | 10 => b,
+        2..=7 => n,
+        8 => b * (n / b + 1),
+        9 => 0,
+        _ => 1,
     }
-    if f < 8 {
-        return n;
-    }
-    if f == 8 {
-        return b * (n / b + 1);
-    }
-    if f == 9 {
-        return 0;
-    }
-    if f == 10 {
-        return b;
-    }
-    1
 }
 
 // The checks of a known suite, one after another.
-pub fn judge_known(f: usize, s: Suite, key: usize, side: usize, text: usize, room: usize) -> Judged
+#[tactic(auto, unfolding(crate::specs::Order::judged_for, common::specs::Choice::pick, modes::specs::Cell::key_wrong))]
+pub fn judge_known(
+    f: usize,
+    s: Suite,
+    key: usize,
+    side: usize,
+    text: usize,
+    room: usize,
+) -> Result<Suite, Refusal>
     requires { Row s }
     ensures { result ≡ judged_for (call_of f) s key side text room }
 {
-    let b = suites::in_bytes(Bits(s.block.0)).0;
-    if key != suites::in_bytes(Bits(s.key.0)).0 {
-        return Judged::Refused(2);
+    let b = Bytes::from(s.block).0;
+    if key != Bytes::from(s.key).0 {
+        return Err(Refusal::Key);
     }
     if iv_wrong(f, b, side) {
-        return Judged::Refused(3);
+        return Err(Refusal::Iv);
     }
     if text_empty(f, text) {
-        return Judged::Refused(4);
+        return Err(Refusal::Empty);
     }
     if text_long(f, b, text) {
-        return Judged::Refused(6);
+        return Err(Refusal::Long);
     }
     if text_partial(f, b, text) {
-        return Judged::Refused(5);
+        return Err(Refusal::Partial);
     }
     if tag_wrong(f, b, side) {
-        return Judged::Refused(7);
+        return Err(Refusal::Tag);
     }
     if room < length_before(f, b, text) {
-        return Judged::Refused(9);
+        return Err(Refusal::Room);
     }
-    Judged::Fine(s)
+    Ok(s)
 }
 
 // The same of a suite number.
-pub fn judge(f: usize, n: u64, key: usize, side: usize, text: usize, room: usize) -> Judged
+#[tactic(auto, unfolding(crate::specs::Order::judged_of, crate::specs::Order::judged_named))]
+pub fn judge(
+    f: usize,
+    n: u64,
+    key: usize,
+    side: usize,
+    text: usize,
+    room: usize,
+) -> Result<Suite, Refusal>
     ensures { result ≡ judged_of (call_of f) n key side text room }
 {
-    match suites::suite_of(n) {
-        Named::Known(s) => judge_known(f, s, key, side, text, room),
-        Named::Unknown => Judged::Refused(1),
-    }
+    let s = suites::suite_of(n).ok_or(Refusal::Suite)?;
+    judge_known(f, s, key, side, text, room)
 }

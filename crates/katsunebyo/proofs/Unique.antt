@@ -5,7 +5,8 @@ use Prim.Native.Nat.{ℕ}
 use Rattle.common.specs.Answer.{Value, Delivered, deliver}
 use Rattle.common.proofs.Unique.{by_equation}
 use Rattle.answers.specs.Told.{number_of, count_of, told_of}
-use Rattle.answers.specs.declared.Told.{Told}
+use Rattle.answers.specs.declared.Refusal.{Refusal}
+use Rattle.std.proofs.Common.{Result}
 use Rattle.modes.specs.Cell.{Call, cell}
 use Rattle.recipe.specs.Outcome.{Outcome, outcome}
 use Rattle.entries.specs.Seen.{seen}
@@ -29,7 +30,7 @@ module _ (f : Call) (suite : ℕ) (key side text : Value) (out : List ℕ) (r r'
 
 -- The same of every function that tells: number, length and every output byte are determined by what is delivered (`handing::hand`, `sealings::seal_call`, `openings::open_call`,
 -- `calls::call`, `entries::sealed`, `entries::opened`, and the plain calls).
-module _ (d : Delivered) (t t' : Told) (o o' : List ℕ) (e : told_of t o ≡ d) (e' : told_of t' o' ≡ d) where
+module _ (d : Delivered) (t t' : Result ℕ Refusal) (o o' : List ℕ) (e : told_of t o ≡ d) (e' : told_of t' o' ≡ d) where
   told_same : told_of t o ≡ told_of t' o'
   told_same = by_equation d (told_of t o) (told_of t' o') e e'
 

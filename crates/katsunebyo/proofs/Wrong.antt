@@ -5,12 +5,12 @@ use Prim.Native.Nat.{ℕ}
 use native.Mathlib.Omega.{arith}
 use lib.ListN.{length, get_or, drop, replicate}
 use lib.Seq.{drop-length}
+use Rattle.std.proofs.Common.{Some}
 use Rattle.common.specs.Choice.{pick}
 use Rattle.common.specs.Answer.{Value, deliver}
 use Rattle.common.specs.Answer.Answer.{value}
 use Rattle.suites.specs.Suites.{suite, suite_of}
 use Rattle.suites.specs.declared.Suite.{Suite}
-use Rattle.suites.specs.declared.Named.TheVariants.{Known}
 use Rattle.modes.specs.Cell.{Call, side_of, shape_of, cell}
 use Rattle.modes.proofs.Fill.{value_inj}
 use Rattle.modes.proofs.Checks.{Past}
@@ -29,7 +29,7 @@ other = 0x01 ∷ replicate 15 0
 abbrev first : Suite
 first = suite 128 128 10 2
 
-known : suite_of 1 ≡ Known first
+known : suite_of 1 ≡ Some first
 unfolding suite_of pick
 known = refl
 

@@ -1,4 +1,4 @@
-// The face: what a host calls; `katsunebyo_c` exports it to C. Each entry takes any bytes, lengths and numbers, gives back the number of document 01, section 7, and writes the length.
+// The face: what a host calls; `katsunebyo_c` exports it to C. Each entry takes any bytes, lengths and numbers, gives back the number of document 01, section 7, and writes the length: that is the form that C can read, so here numbers stay.
 #![tactic(auto)]
 
 ghost use Rattle.std.specs.Prelude.{◌≡◌, []};
@@ -8,8 +8,9 @@ ghost use Rattle.recipe.specs.Outcome.{outcome};
 ghost use Rattle.recipe.specs.Prepare.{prepare_of};
 ghost use Rattle.recipe.specs.Run.{run_of};
 ghost use Rattle.entries.specs.Seen.{seen};
+ghost use Rattle.preparing.specs.Ended.{place_of};
 
-use preparing::Ended;
+use answers::Fault;
 
 // One block sealed.
 pub fn katsu_blk(suite: u64, key: &[u8], block: &[u8], out: &mut [u8], length: &mut usize) -> u32
@@ -167,6 +168,17 @@ pub fn katsu_chk(
     answers::give(entries::sealed(11, suite, key, tag, text, out), length)
 }
 
+// Where in the text a refusal stands; 0 for all else.
+#[tactic(auto, unfolding(preparing::specs::Ended::place_of))]
+fn place_in(told: Result<usize, Fault>) -> usize
+    ensures { result ≡ place_of told }
+{
+    match told {
+        Ok(_) => 0,
+        Err(fault) => fault.place,
+    }
+}
+
 // A recipe text prepared to an image, with the values of `#`; the place is where in the text a refusal stands.
 pub fn katsu_prepare(
     text: &[u8],
@@ -178,18 +190,9 @@ pub fn katsu_prepare(
 ) -> u32
     ensures { outcome (seen result length.new out.new) place.new work.new ≡ prepare_of cell_of text.now list.now out.old work.old }
 {
-    match preparing::prepare(text, list, out, work) {
-        Ended::Done(n) => {
-            *length = n;
-            *place = 0;
-            0
-        }
-        Ended::Refused(m, p) => {
-            *length = 0;
-            *place = p;
-            m
-        }
-    }
+    let told = preparing::prepare(text, list, out, work);
+    *place = place_in(told);
+    answers::give(told, length)
 }
 
 // An image run on a list of values, once a row.

@@ -4,13 +4,12 @@ use Prim.Native.Nat.{ℕ, zero, suc, ◌+◌, ◌-◌, ◌*◌, ◌/◌, ◌%◌
 use native.Mathlib.Nat.{suc-mul, zero-mul, div-add-mod'}
 use native.Mathlib.Omega.{arith}
 use lib.ListN.{length}
+use Rattle.std.proofs.Common.{Option, Some, None}
 use Rattle.common.specs.Choice.{pick}
 use Rattle.common.specs.Answer.{Value, Answer}
 use Rattle.common.specs.Answer.Answer.{value, refused}
 use Rattle.suites.specs.Suites.{suite_of, block_bytes}
 use Rattle.suites.specs.declared.Suite.{Suite}
-use Rattle.suites.specs.declared.Named.{Named}
-use Rattle.suites.specs.declared.Named.TheVariants.{Known, Unknown}
 use Rattle.modes.specs.Stream as Stream
 use Rattle.modes.specs.Chain as Chain
 use Rattle.modes.specs.Fill.{fill, unfill}
@@ -31,15 +30,15 @@ Makes f s key side text = made f (block_bytes s) (sealing s key) (opening s key)
 
 pub record Answered (f : Call) (n : ℕ) (key side text v : Value) : Type 0 where
   pub suite : Suite
-  pub known : suite_of n ≡ Known suite
+  pub known : suite_of n ≡ Some suite
   pub past : Past f suite key side text
   pub makes : Makes f suite key side text ≡ value v
 
-pub cell_known : (f : Call) (n : ℕ) (s : Suite) (key side text : Value) → suite_of n ≡ Known s → cell f n key side text ≡ checked f s key side text
+pub cell_known : (f : Call) (n : ℕ) (s : Suite) (key side text : Value) → suite_of n ≡ Some s → cell f n key side text ≡ checked f s key side text
 unfolding cell suited
 cell_known f n s key side text e = ap (λ x. suited f x key side text) e
 
-pub cell_unknown : (f : Call) (n : ℕ) (key side text : Value) → suite_of n ≡ Unknown → cell f n key side text ≡ refused 1
+pub cell_unknown : (f : Call) (n : ℕ) (key side text : Value) → suite_of n ≡ None → cell f n key side text ≡ refused 1
 unfolding cell suited
 cell_unknown f n key side text e = ap (λ x. suited f x key side text) e
 
@@ -59,15 +58,15 @@ pub answered : (f : Call) (n : ℕ) (key side text v : Value) → cell f n key s
 unfolding cell suited
 answered f n key side text v e = go (suite_of n) refl e
   where
-    go : (x : Named) → suite_of n ≡ x → suited f x key side text ≡ value v → Answered f n key side text v
-    go (Known s) es e =
+    go : (x : Option Suite) → suite_of n ≡ x → suited f x key side text ≡ value v → Answered f n key side text v
+    go (Some s) es e =
         record {
           suite = s;
           known = es;
           past = (checked_value f s key side text v e).0;
           makes = (checked_value f s key side text v e).1;
         }
-    go Unknown es e = absurd (not_both 1 v e)
+    go None es e = absurd (not_both 1 v e)
 
 pub answers : (f : Call) (n : ℕ) (key side text v : Value) → Answered f n key side text v → cell f n key side text ≡ value v
 answers f n key side text v a =
@@ -88,7 +87,7 @@ past_moves f g s key side text v es eh el p =
 
 -- what f makes of a text, g makes back, so what f answers, g answers back
 pub moves_back : (f g : Call) (n : ℕ) (key side text v : Value) → side_of f ≡ side_of g → shape_of f ≡ shape_of g
-    → ((s : Suite) → suite_of n ≡ Known s → Past f s key side text → Makes f s key side text ≡ value v
+    → ((s : Suite) → suite_of n ≡ Some s → Past f s key side text → Makes f s key side text ≡ value v
     → (length text ≡ length v) × (Makes g s key side v ≡ value text))
     → cell f n key side text ≡ value v → cell g n key side v ≡ value text
 moves_back f g n key side text v es eh back e = go (answered f n key side text v e)
@@ -123,7 +122,7 @@ last_block B L p w l = sym (sym (suc-mul (L / B - 1) B) ∙ ap (λ i. i * B) som
         go (suc i) e = omega arith
 
 -- 13 is never given: code may leave the test out
-pub ctr_makes : (n : ℕ) (s : Suite) (key side text : Value) → suite_of n ≡ Known s → length text ≤ 1024
+pub ctr_makes : (n : ℕ) (s : Suite) (key side text : Value) → suite_of n ≡ Some s → length text ≤ 1024
     → Makes Call.ctr s key side text ≡ value (Stream.ctr (block_bytes s) (sealing s key) side text)
 unfolding made pick
 ctr_makes n s key side text k l =
@@ -154,7 +153,7 @@ module _ (n : ℕ) (key iv text v : Value) where
   unfolding shape_of
   ctr_back = moves_back Call.ctr Call.ctr n key iv text v refl refl (λ s k p e. again s k p.text_short (sym (ctr_makes n s key iv text k p.text_short) ∙ e))
     where
-      again : (s : Suite) → suite_of n ≡ Known s → length text ≤ 1024 → value (Stream.ctr (block_bytes s) (sealing s key) iv text) ≡ value v
+      again : (s : Suite) → suite_of n ≡ Some s → length text ≤ 1024 → value (Stream.ctr (block_bytes s) (sealing s key) iv text) ≡ value v
           → (length text ≡ length v) × (Makes Call.ctr s key iv v ≡ value text)
       again s k l e = (r.0, ctr_makes n s key iv v k (subst (λ m. m ≤ 1024) r.0 l) ∙ r.1)
         where
@@ -258,7 +257,7 @@ pub record Unfilled (n : ℕ) (s : Suite) (key iv text v : Value) : Type 0 where
   pub refill : fill (block_bytes s) v ≡ Chain.uncbc (block_bytes s) (opening s key) iv text
   pub long : length (fill (block_bytes s) v) ≡ length text
 
-pub unfilled : (n : ℕ) (s : Suite) (key iv text v : Value) → suite_of n ≡ Known s → Past Call.uncbp s key iv text → Makes Call.uncbp s key iv text ≡ value v
+pub unfilled : (n : ℕ) (s : Suite) (key iv text v : Value) → suite_of n ≡ Some s → Past Call.uncbp s key iv text → Makes Call.uncbp s key iv text ≡ value v
     → Unfilled n s key iv text v
 unfolding shape_of made
 unfilled n s key iv text v k p e = record { some = unfill_some B q o v pos size e; less = omega (arith, fill_more B v pos, long); refill = refill; long = long }

@@ -5,12 +5,11 @@ use Prim.Native.Nat.{ℕ, ◌≤◌}
 use native.Mathlib.Nat.{}
 use native.Mathlib.Omega.{arith}
 use lib.ListN.{length}
+use Rattle.std.proofs.Common.{Option, Some as Known, None}
 use Rattle.common.specs.Answer.{Value, Answer}
 use Rattle.common.specs.Answer.Answer.{value, refused}
 use Rattle.suites.specs.Suites.{suite_of, block_bytes}
 use Rattle.suites.specs.declared.Suite.{Suite}
-use Rattle.suites.specs.declared.Named.{Named}
-use Rattle.suites.specs.declared.Named.TheVariants.{Known, Unknown}
 use Rattle.modes.specs.Fill.{unfill}
 use Rattle.modes.specs.Cell.{Call, shape_of, blocks_in, made, sealing, checked, suited, cell}
 use Rattle.modes.proofs.Blocks.{OfBytes}
@@ -55,8 +54,8 @@ pub number_1 : (f : Call) (n : ℕ) (key side text : Value) → (cell f n key si
 unfolding cell suited
 number_1 f n key side text = (λ e. only (suite_of n) refl e, λ h. given (suite_of n) refl h)
   where
-    only : (x : Named) → suite_of n ≡ x → suited f x key side text ≡ refused 1 → (1 ≤ n) × (n ≤ 5) → ⊥
-    only Unknown k e = no_suite n k
+    only : (x : Option Suite) → suite_of n ≡ x → suited f x key side text ≡ refused 1 → (1 ≤ n) × (n ≤ 5) → ⊥
+    only None k e = no_suite n k
     only (Known s) k e =
         each_answer f s key side text (λ a. a ≡ refused 1 → (1 ≤ n) × (n ≤ 5) → ⊥)
         (λ _ e. clash 2 1 (omega arith) e)
@@ -68,8 +67,8 @@ number_1 f n key side text = (λ e. only (suite_of n) refl e, λ h. given (suite
         (λ p e. (let z : ◌≡◌ {A = ℕ} 1 8 = (made_refused n s key side text 1 k f p e).1 in absurd (omega arith)))
         e
 
-    given : (x : Named) → suite_of n ≡ x → ((1 ≤ n) × (n ≤ 5) → ⊥) → suited f x key side text ≡ refused 1
-    given Unknown k h = refl
+    given : (x : Option Suite) → suite_of n ≡ x → ((1 ≤ n) × (n ≤ 5) → ⊥) → suited f x key side text ≡ refused 1
+    given None k h = refl
     given (Known s) k h = absurd (h ((sized n s k).from, (sized n s k).upto))
 
 -- ---- the others, of a known suite
@@ -320,7 +319,7 @@ pub never_13 : (f : Call) (n : ℕ) (key side text : Value) → cell f n key sid
 unfolding cell suited
 never_13 f n key side text e = go (suite_of n) refl e
   where
-    go : (x : Named) → suite_of n ≡ x → suited f x key side text ≡ refused 13 → ⊥
-    go Unknown k e = clash 1 13 (omega arith) e
+    go : (x : Option Suite) → suite_of n ≡ x → suited f x key side text ≡ refused 13 → ⊥
+    go None k e = clash 1 13 (omega arith) e
     go (Known s) k e =
         let z : ◌≡◌ {A = ℕ} 13 8 = no_other f n s key side text k 13 (cell_known f n s key side text k ∙ e) (omega arith) (omega arith) (omega arith) (omega arith) (omega arith) (omega arith) in omega arith

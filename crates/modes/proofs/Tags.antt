@@ -5,12 +5,12 @@ use mathlib.Core.List.{[], ◌∷◌}
 use Prim.Native.Nat.{ℕ, ◌+◌, ◌*◌, ◌/◌, ◌^◌, ◌<◌, ◌≤◌}
 use native.Mathlib.Omega.{arith}
 use lib.ListN.{take, length}
+use Rattle.std.proofs.Common.{Some}
 use Rattle.common.specs.Answer.{Value}
 use Rattle.common.specs.Answer.Answer.{value, refused}
 use Rattle.kalyna.specs.State.{Bytes}
 use Rattle.suites.specs.Suites.{suite_of, block_bytes}
 use Rattle.suites.specs.declared.Suite.{Suite}
-use Rattle.suites.specs.declared.Named.TheVariants.{Known}
 use Rattle.modes.specs.Mac as Mac
 use Rattle.modes.specs.Stream as Stream
 use Rattle.modes.specs.Cell.{Call, side_of, shape_of, made, sealing, opening, cell}
@@ -59,7 +59,7 @@ module _ (n : ℕ) (key tag side text h : Value) (right : cell Call.mac n key si
     most : length tag ≤ length h
     makes : Mac.chk (block_bytes s) (sealing s key) tag text ≡ v
 
-  known_inj : (x y : Suite) → Known x ≡ Known y → x ≡ y
+  known_inj : (x y : Suite) → Some x ≡ Some y → x ≡ y
   known_inj x y e = cc
 
   said : (v : Value) → cell Call.chk n key tag text ≡ value v → Checked v
@@ -81,7 +81,7 @@ module _ (n : ℕ) (key tag side text h : Value) (right : cell Call.mac n key si
           fits = subst (λ x. (8 ≤ length tag) × (length tag ≤ block_bytes x)) same b.past.tag_fits
 
   -- the right tag has B bytes
-  pub mac_long : (x : Suite) → suite_of n ≡ Known x → length h ≡ block_bytes x
+  pub mac_long : (x : Suite) → suite_of n ≡ Some x → length h ≡ block_bytes x
   mac_long x k = tag_long ∙ ap block_bytes (known_inj s x (sym a.known ∙ k))
 
   -- 01 exactly for 8 to B leading bytes of the right tag
@@ -107,7 +107,7 @@ module _ (n : ℕ) (key tag side text h : Value) (right : cell Call.mac n key si
   )
 
 -- ---- the counter: document 003 lets only the low half of the block count; the cell is the same unless that half is within 64 of its top
-pub ctr_agrees : (n : ℕ) (s : Suite) (key iv text v : Value) → suite_of n ≡ Known s → cell Call.ctr n key iv text ≡ value v
+pub ctr_agrees : (n : ℕ) (s : Suite) (key iv text v : Value) → suite_of n ≡ Some s → cell Call.ctr n key iv text ≡ value v
     → low_half (block_bytes s / 2) (sealing s key iv) + 64 < 256 ^ (block_bytes s / 2) → half_ctr (block_bytes s / 2) (sealing s key) iv text ≡ v
 unfolding shape_of
 ctr_agrees n s key iv text v k e l = go (answered Call.ctr n key iv text v e)
@@ -115,7 +115,7 @@ ctr_agrees n s key iv text v k e l = go (answered Call.ctr n key iv text v e)
     z : Sized n s
     z = sized n s k
 
-    known_same : (x y : Suite) → Known x ≡ Known y → x ≡ y
+    known_same : (x y : Suite) → Some x ≡ Some y → x ≡ y
     known_same x y q = cc
 
     go : Answered Call.ctr n key iv text v → half_ctr (block_bytes s / 2) (sealing s key) iv text ≡ v

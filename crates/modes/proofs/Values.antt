@@ -5,13 +5,13 @@ use Prim.Native.Nat.{ℕ, zero, suc, ◌/◌, ◌%◌, ◌<◌, ◌≤◌}
 use native.Mathlib.Nat.{div-add-mod'}
 use native.Mathlib.Omega.{arith}
 use lib.ListN.{get_or, length}
+use Rattle.std.proofs.Common.{Some}
 use Rattle.common.specs.Answer.{Value}
 use Rattle.common.specs.Answer.Answer.{value}
 use Rattle.field.proofs.XorLaws as X
 use Rattle.kalyna.specs.State.{Bytes}
 use Rattle.suites.specs.Suites.{suite_of, block_bytes}
 use Rattle.suites.specs.declared.Suite.{Suite}
-use Rattle.suites.specs.declared.Named.TheVariants.{Known}
 use Rattle.modes.specs.Blocks.{block_at}
 use Rattle.modes.specs.Stream as Stream
 use Rattle.modes.specs.Chain as Chain
@@ -87,7 +87,7 @@ module _ (B : ℕ) (E D : List ℕ → List ℕ) (cipher : Cipher B E D) (iv tex
 front_bytes : (B : ℕ) (v : Value) → OfBytes (fill B v) → OfBytes v
 front_bytes B v b = by_places v (λ i h. subst (λ x. x < 256) (fill_front B v i h) (b i))
 
-module _ (n : ℕ) (s : Suite) (key side text v : Value) (k : suite_of n ≡ Known s) (bs : OfBytes side) (bt : OfBytes text) where
+module _ (n : ℕ) (s : Suite) (key side text v : Value) (k : suite_of n ≡ Some s) (bs : OfBytes side) (bt : OfBytes text) where
   abbrev B : ℕ
   B = block_bytes s
 

@@ -1,5 +1,5 @@
 -- The twelve cipher calls (document 01, sections 5 and 7).
-use Rattle.std.specs.Prelude.{Bool, true, false, not, List, [], ◌∷◌, ℕ, ◌+◌, ◌-◌, ◌*◌, ◌/◌, ◌%◌, eqb, leb, ltb, get_or, length}
+use Rattle.std.specs.Prelude.{Bool, true, false, not, List, [], ◌∷◌, ℕ, ◌+◌, ◌-◌, ◌*◌, ◌/◌, ◌%◌, eqb, leb, ltb, get_or, length, Option, Some, None}
 use Rattle.common.specs.Choice.{pick}
 use Rattle.common.specs.Places.{tab}
 use Rattle.common.specs.Answer.{Value, Answer}
@@ -9,8 +9,6 @@ use Rattle.kalyna.specs.Block.{seal_bytes, unseal_bytes}
 use Rattle.kalyna.specs.Keys.{round_key}
 use Rattle.suites.specs.Suites.{bits, bytes_in, suite_of, block_bytes, key_bytes, key_columns}
 use Rattle.suites.specs.declared.Suite.{Suite}
-use Rattle.suites.specs.declared.Named.{Named}
-use Rattle.suites.specs.declared.Named.TheVariants.{Known, Unknown}
 use Rattle.modes.specs.Stream as Stream
 use Rattle.modes.specs.Chain as Chain
 use Rattle.modes.specs.Fill.{fill, unfill}
@@ -153,9 +151,9 @@ checked f s key side text =
     (pick (tag_wrong (side_of f) (block_bytes s) (length side)) (refused 7)
     (made f (block_bytes s) (sealing s key) (opening s key) side text))))))
 
-unfoldable pub suited : Call → Named → Value → Value → Value → Answer
-suited f (Known s) key side text = checked f s key side text
-suited f Unknown key side text = refused 1
+unfoldable pub suited : Call → (Option Suite) → Value → Value → Value → Answer
+suited f (Some s) key side text = checked f s key side text
+suited f None key side text = refused 1
 
 -- what call f answers for suite number n; the side is the IV or the tag, and counts for nothing where a call has neither
 unfoldable pub cell : Call → ℕ → Value → Value → Value → Answer

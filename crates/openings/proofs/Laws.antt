@@ -6,7 +6,7 @@ use native.Mathlib.Nat.{div-add-mod', zero-mul, suc-mul}
 use native.Mathlib.Omega.{arith}
 use lib.ListN.{length, take, drop}
 use Rattle.common.specs.Answer.{Value, Delivered, deliver}
-use Rattle.common.specs.Answer.Answer.{value, refused}
+use Rattle.common.specs.Answer.Answer.{value}
 use Rattle.kalyna.specs.Block.{unseal_bytes}
 use Rattle.open_laws.specs.Opening.{Unmixed}
 use Rattle.blocks.specs.Blocks.{Width, keys_of}
@@ -14,18 +14,20 @@ use Rattle.suites.specs.Suites.{block_bytes}
 use Rattle.suites.specs.declared.Suite.{Suite}
 use Rattle.suite_laws.specs.Row.{Row}
 use Rattle.modes.specs.Chain as Chain
-use Rattle.modes.specs.Fill.{unfill, marked}
+use Rattle.modes.specs.Fill.{unfill}
+use Rattle.fills.specs.Ended.{ended}
 use Rattle.modes.specs.Cell.{Call, side_of, shape_of, made, sealing, opening}
 use Rattle.modes.proofs.Cell.{Makes}
 use Rattle.answers.specs.Told.{told_of}
-use Rattle.answers.specs.declared.Told.TheVariants.{Done, Refused}
+use Rattle.std.proofs.Common.{Ok, Err, Some, None}
+use Rattle.std.specs.Prelude.{Option, IfSome}
+use Rattle.answers.specs.declared.Refusal.TheVariants as refusals
+use Rattle.answers.specs.Told.{table}
 use Rattle.judging.specs.Order.{length_before}
 use Rattle.judging.specs.Cleared.{Cleared}
 use Rattle.call_laws.proofs.Same.{keys_for, keys_long, opening_is}
 use Rattle.call_laws.proofs.Facts as facts
 use lib.Seq.{take-append_seam, take-take}
-use borrow.Author.Tests.{eq-eqb, ne_eqb}
-use Rattle.common.specs.Choice.{pick}
 use Rattle.handing.proofs.Giving.{refuses}
 
 -- whole blocks, and some: at least one
@@ -36,26 +38,30 @@ whole_least b n p w = go (n / b) (div-add-mod' n b)
     go zero e = let z : ⊥ = omega (arith, zero-mul b, e) in absurd z
     go (suc q) e = omega (arith, suc-mul q b, e)
 
--- `uncbc` wrote v to the front of a room of its own; the text ends at r there
-module _ (B n r : ℕ) (v room after out : List ℕ) (l : length v ≡ n) (w : after ≡ v ++ drop n room) (m : unfill B (take n after) ≡ marked r (take n after)) where
+-- `uncbc` wrote v to the front of a room of its own; the text ends there at r, or nowhere
+module _ (B n : ℕ) (r : Option ℕ) (v room after out : List ℕ) (l : length v ≡ n) (w : after ≡ v ++ drop n room) (m : unfill B (take n after) ≡ ended r (take n after)) where
   front : take n after ≡ v
   front = ap (take n) w ∙ subst (λ m. take m (v ++ drop n room) ≡ v) l (take-append_seam v (drop n room))
 
-  is_marked : unfill B v ≡ marked r v
-  is_marked = subst (λ x. unfill B x ≡ marked r x) front m
+  is_ended : unfill B v ≡ ended r v
+  is_ended = subst (λ x. unfill B x ≡ ended r x) front m
 
   -- no text before the fill
-  pub none_marked : r ≡ 0 → told_of (Refused 8) out ≡ deliver (unfill B v) out
-  unfolding marked pick
-  none_marked h = refuses 8 out ∙ sym (ap (λ a. deliver a out) (is_marked ∙ ap (λ b. pick b (refused 8) (value (take r v))) (eq-eqb r 0 h)))
+  pub none_ended : r ≡ None → told_of (Err refusals.Fill) out ≡ deliver (unfill B v) out
+  unfolding ended table
+  none_ended h = refuses refusals.Fill out ∙ sym (ap (λ a. deliver a out) (is_ended ∙ ap (λ r. ended r v) h))
 
-  -- the r leading bytes of the room are the text
-  pub marked_handed : (d : Delivered) → r ≤ n → (r ≡ 0 → ⊥) → d ≡ deliver (value (take r after)) out → d ≡ deliver (unfill B v) out
-  unfolding marked pick
-  marked_handed d k h e =
+  -- the k leading bytes of the room are the text
+  pub ended_handed : (d : Delivered) (k : ℕ) → r ≡ Some k → k ≤ n → d ≡ deliver (value (take k after)) out → d ≡ deliver (unfill B v) out
+  unfolding ended
+  ended_handed d k h le e =
       e
-      ∙ ap (λ y. deliver (value y) out) (sym (take-take r n after k) ∙ ap (take r) front)
-      ∙ sym (ap (λ a. deliver a out) (is_marked ∙ ap (λ b. pick b (refused 8) (value (take r v))) (ne_eqb r 0 h)))
+      ∙ ap (λ y. deliver (value y) out) (sym (take-take k n after le) ∙ ap (take k) front)
+      ∙ sym (ap (λ a. deliver a out) (is_ended ∙ ap (λ r. ended r v) h))
+
+-- an end lies within
+pub end_in : (r : Option ℕ) (n k : ℕ) → IfSome r (λ m. (0 < m) × (m ≤ n)) → r ≡ Some k → k ≤ n
+end_in r n k h e = (subst (λ r. IfSome r (λ m. (0 < m) × (m ≤ n))) e h).1
 
 module _ (g : Call) (s : Suite) (key side text : Value) (out : List ℕ) (cl : Cleared g s (length key) (length side) (length text) (length out))
     (ks kb : List ℕ) (ek : ks ≡ keys_for s key) (un : Unmixed s.columns (s.columns * s.rounds) ks kb) where
@@ -99,7 +105,7 @@ module _ (g : Call) (s : Suite) (key side text : Value) (out : List ℕ) (cl : C
   )
 
   pub unblk_done : g ≡ Call.unblk → (after : List ℕ) → after ≡ D text ++ drop (8 * s.columns) out
-      → told_of (Done (8 * s.columns)) after ≡ deliver (made g (block_bytes s) (sealing s key) (opening s key) side text) out
+      → told_of (Ok (8 * s.columns)) after ≡ deliver (made g (block_bytes s) (sealing s key) (opening s key) side text) out
   unfolding made length_before
   unblk_done q after w =
       facts.done g s key side text out cl (λ e. other (sym q ∙ e)) (8 * s.columns) after (D text) (ap (λ h. Makes h s key side text) q ∙ ap (λ X. value (X text)) is_D)
@@ -109,7 +115,7 @@ module _ (g : Call) (s : Suite) (key side text : Value) (out : List ℕ) (cl : C
       other e = let z : ◌≡◌ {A = ℕ} 0 1 = cc in omega arith
 
   pub uncbc_done : g ≡ Call.uncbc → (after : List ℕ) → after ≡ Chain.uncbc (8 * s.columns) D side text ++ drop (length text) out
-      → told_of (Done (length text)) after ≡ deliver (made g (block_bytes s) (sealing s key) (opening s key) side text) out
+      → told_of (Ok (length text)) after ≡ deliver (made g (block_bytes s) (sealing s key) (opening s key) side text) out
   unfolding made length_before
   uncbc_done q after w =
       facts.done g s key side text out cl (λ e. other (sym q ∙ e)) (length text) after (Chain.uncbc (8 * s.columns) D side text)

@@ -8,6 +8,7 @@ use native.Mathlib.Omega.{arith}
 use lib.Dec.{leb}
 use lib.ListN.{length, get_or, set, take, drop, length-append}
 use lib.Seq.{drop-append-add, take-append_seam, set_split, drop-drop}
+use mir.Val.{bool_byte}
 use borrow.Author.Tests.{le-leb, lt-leb, eq-eqb, ne_eqb}
 use Rattle.common.specs.Choice.{pick}
 use Rattle.common.specs.Places.{tab}
@@ -19,29 +20,30 @@ use Rattle.common.proofs.Choices.{pick_true, pick_false}
 use Rattle.field.specs.Xor as field
 use Rattle.meaning.specs.Real.{cat, xor_byte, xor_bytes, xor, same, eq, head}
 use Rattle.handing.proofs.Giving.{gives, lacks, refuses}
-use Rattle.answers.specs.declared.Told.TheVariants.{Done, Refused}
-use Rattle.answers.specs.Told.{told_of}
+use Rattle.std.proofs.Common.{Ok, Err}
+use Rattle.answers.specs.declared.Refusal.TheVariants as refusals
+use Rattle.answers.specs.Told.{table, told_of}
 
 -- `cat`
 module _ (a b out : List ℕ) where
-  pub cat_long : 1024 < length a → told_of (Refused 6) out ≡ deliver (cat a b) out
-  unfolding cat
-  cat_long h = refuses 6 out ∙ sym (ap (λ x. deliver x out) (pick_false _ _ _ (lt-leb (length a + length b) 1024 (omega arith))))
+  pub cat_long : 1024 < length a → told_of (Err refusals.Long) out ≡ deliver (cat a b) out
+  unfolding cat table
+  cat_long h = refuses refusals.Long out ∙ sym (ap (λ x. deliver x out) (pick_false _ _ _ (lt-leb (length a + length b) 1024 (omega arith))))
 
-  pub cat_both_long : 1024 - length a < length b → told_of (Refused 6) out ≡ deliver (cat a b) out
-  unfolding cat
-  cat_both_long h = refuses 6 out ∙ sym (ap (λ x. deliver x out) (pick_false _ _ _ (lt-leb (length a + length b) 1024 (omega arith))))
+  pub cat_both_long : 1024 - length a < length b → told_of (Err refusals.Long) out ≡ deliver (cat a b) out
+  unfolding cat table
+  cat_both_long h = refuses refusals.Long out ∙ sym (ap (λ x. deliver x out) (pick_false _ _ _ (lt-leb (length a + length b) 1024 (omega arith))))
 
   module _ (h : length a ≤ 1024) (g : length b ≤ 1024 - length a) where
     is_cat : cat a b ≡ value (a ++ b)
     unfolding cat
     is_cat = pick_true _ _ _ (le-leb (length a + length b) 1024 (omega arith))
 
-    pub cat_lacks : length out < length a + length b → told_of (Refused 9) out ≡ deliver (cat a b) out
+    pub cat_lacks : length out < length a + length b → told_of (Err refusals.Room) out ≡ deliver (cat a b) out
     cat_lacks l = let m = length-append a b in lacks (a ++ b) out (omega arith) ∙ sym (ap (λ x. deliver x out) is_cat)
 
     pub cat_gives : (o p : List ℕ) → length a + length b ≤ length out → o ≡ take 0 out ++ (a ++ drop (0 + length a) out) → p ≡ take (length a) o ++ (b ++ drop (length a + length b) o)
-        → told_of (Done (length a + length b)) p ≡ deliver (cat a b) out
+        → told_of (Ok (length a + length b)) p ≡ deliver (cat a b) out
     cat_gives o p l e f =
         let z : 0 + length a ≡ length a = omega arith in
         let e1 : o ≡ a ++ drop (length a) out = e ∙ ap (λ n. a ++ drop n out) z in
@@ -65,9 +67,9 @@ xor_whole a b out out' i e R =
     ∙ ap (λ n. tab n (λ j. field.xor (get_or a j 0) (get_or b j 0)) ++ drop n out) e
 
 module _ (a b out : List ℕ) where
-  pub xor_unequal : (length a ≡ length b → ⊥) → told_of (Refused 10) out ≡ deliver (xor a b) out
-  unfolding xor
-  xor_unequal h = refuses 10 out ∙ sym (ap (λ x. deliver x out) (pick_false _ _ _ (ne_eqb (length a) (length b) h)))
+  pub xor_unequal : (length a ≡ length b → ⊥) → told_of (Err refusals.Unequal) out ≡ deliver (xor a b) out
+  unfolding xor table
+  xor_unequal h = refuses refusals.Unequal out ∙ sym (ap (λ x. deliver x out) (pick_false _ _ _ (ne_eqb (length a) (length b) h)))
 
   module _ (h : length a ≡ length b) where
     is_xor : xor a b ≡ value (xor_bytes a b)
@@ -78,10 +80,10 @@ module _ (a b out : List ℕ) where
     unfolding xor_bytes
     xor_size = length_tab (length a) (λ i. xor_byte (get_or a i 0) (get_or b i 0))
 
-    pub xor_lacks : length out < length a → told_of (Refused 9) out ≡ deliver (xor a b) out
+    pub xor_lacks : length out < length a → told_of (Err refusals.Room) out ≡ deliver (xor a b) out
     xor_lacks l = let m = xor_size in lacks (xor_bytes a b) out (omega arith) ∙ sym (ap (λ x. deliver x out) is_xor)
 
-    pub xor_gives : (o : List ℕ) → length a ≤ length out → o ≡ xor_bytes a b ++ drop (length a) out → told_of (Done (length a)) o ≡ deliver (xor a b) out
+    pub xor_gives : (o : List ℕ) → length a ≤ length out → o ≡ xor_bytes a b ++ drop (length a) out → told_of (Ok (length a)) o ≡ deliver (xor a b) out
     xor_gives o l e = gives (xor_bytes a b) out o (length a) (sym xor_size) l e ∙ sym (ap (λ x. deliver x out) is_xor)
 
 -- `eq`
@@ -95,12 +97,19 @@ module _ (a b out : List ℕ) where
   unfolding eq
   is_eq = ap value (byte_of_lem (same a b))
 
-  pub eq_lacks : length out < 1 → told_of (Refused 9) out ≡ deliver (eq a b) out
+  pub eq_lacks : length out < 1 → told_of (Err refusals.Room) out ≡ deliver (eq a b) out
   eq_lacks l = lacks (pick {A = ℕ} (same a b) 0x01 0x00 ∷ []) out l ∙ sym (ap (λ x. deliver x out) is_eq)
 
-  pub eq_gives : (x : ℕ) → 1 ≤ length out → x ≡ pick (same a b) 0x01 0x00 → told_of (Done 1) (set out 0 x) ≡ deliver (eq a b) out
-  eq_gives x l e =
-      gives (pick {A = ℕ} (same a b) 0x01 0x00 ∷ []) out (set out 0 x) 1 refl l (set_split out 0 x l ∙ ap (λ y. y ∷ drop 1 out) e) ∙ sym (ap (λ x. deliver x out) is_eq)
+  byte_picked : (t : Bool) → bool_byte t ≡ pick {A = ℕ} t 0x01 0x00
+  unfolding pick
+  byte_picked true = refl
+  byte_picked false = refl
+
+  pub eq_gives : (t : Bool) (x : ℕ) → 1 ≤ length out → x ≡ bool_byte t → t ≡ same a b → told_of (Ok 1) (set out 0 x) ≡ deliver (eq a b) out
+  eq_gives t x l e s =
+      gives (pick {A = ℕ} (same a b) 0x01 0x00 ∷ []) out (set out 0 x) 1 refl l
+      (set_split out 0 x l ∙ ap (λ y. y ∷ drop 1 out) (e ∙ byte_picked t ∙ ap (λ b. pick {A = ℕ} b 0x01 0x00) s))
+      ∙ sym (ap (λ x. deliver x out) is_eq)
 
 -- `head`
 module _ (n a out : List ℕ) where
@@ -116,12 +125,14 @@ module _ (n a out : List ℕ) where
   one_byte (x ∷ []) h = refl
   one_byte (x ∷ (y ∷ r)) h = absurd (omega arith)
 
-  pub head_count : (length n ≡ 1 → ⊥) → told_of (Refused 12) out ≡ deliver (head n a) out
-  head_count h = refuses 12 out ∙ sym (ap (λ x. deliver x out) (not_one n h))
+  pub head_count : (length n ≡ 1 → ⊥) → told_of (Err refusals.Short) out ≡ deliver (head n a) out
+  unfolding table
+  head_count h = refuses refusals.Short out ∙ sym (ap (λ x. deliver x out) (not_one n h))
 
   module _ (h : length n ≡ 1) where
-    pub head_short : length a < get_or n 0 0 → told_of (Refused 12) out ≡ deliver (head n a) out
-    head_short l = refuses 12 out ∙ sym (ap (λ x. deliver x out) (one_byte n h ∙ pick_false _ _ _ (lt-leb (get_or n 0 0) (length a) l)))
+    pub head_short : length a < get_or n 0 0 → told_of (Err refusals.Short) out ≡ deliver (head n a) out
+    unfolding table
+    head_short l = refuses refusals.Short out ∙ sym (ap (λ x. deliver x out) (one_byte n h ∙ pick_false _ _ _ (lt-leb (get_or n 0 0) (length a) l)))
 
     pub head_gives : (d : Delivered) → get_or n 0 0 ≤ length a → d ≡ deliver (value (take (get_or n 0 0) a)) out → d ≡ deliver (head n a) out
     head_gives d l e = e ∙ sym (ap (λ x. deliver x out) (one_byte n h ∙ pick_true _ _ _ (le-leb (get_or n 0 0) (length a) l)))

@@ -5,11 +5,10 @@ use mathlib.Core.Logic.{◌⊎◌}
 use Prim.Native.Nat.{ℕ}
 use native.Mathlib.Omega.{arith}
 use lib.Dec.{eqb}
+use Rattle.std.proofs.Common.{Option, Some, None}
 use Rattle.common.specs.Choice.{pick}
 use Rattle.suites.specs.Suites.{suite, suite_of}
 use Rattle.suites.specs.declared.Suite.{Suite}
-use Rattle.suites.specs.declared.Named.{Named}
-use Rattle.suites.specs.declared.Named.TheVariants.{Known, Unknown}
 use Rattle.suite_laws.specs.Row.{Row}
 
 row_1 : Row (suite 128 128 10 2)
@@ -78,18 +77,18 @@ row_5 =
     }
 
 -- the first of two where the test holds, else the second
-picked : (b : Bool) (r : Suite) (rest : Named) (s : Suite) → Row r → (rest ≡ Known s → Row s) → pick b (Known r) rest ≡ Known s → Row s
+picked : (b : Bool) (r : Suite) (rest : Option Suite) (s : Suite) → Row r → (rest ≡ Some s → Row s) → pick b (Some r) rest ≡ Some s → Row s
 unfolding pick
 picked true r rest s row next e = subst Row (same r s e) row
   where
-    same : (r s : Suite) → Known r ≡ Known s → r ≡ s
+    same : (r s : Suite) → Some r ≡ Some s → r ≡ s
     same r s e = cc
 picked false r rest s row next e = next e
 
-never : (s : Suite) → Unknown ≡ Known s → Row s
+never : (s : Suite) → None ≡ Some s → Row s
 never s e = let z : ◌≡◌ {A = ℕ} 0 1 = cc in let w : ⊥ = omega arith in absurd w
 
-pub known_row : (n : ℕ) (s : Suite) → suite_of n ≡ Known s → Row s
+pub known_row : (n : ℕ) (s : Suite) → suite_of n ≡ Some s → Row s
 unfolding suite_of
 known_row n s =
     picked (eqb n 1) _ _ s row_1

@@ -5,22 +5,24 @@ ghost use Rattle.std.specs.Prelude.{◌≡◌, ◌/◌};
 ghost use Rattle.suites.specs.Suites.{bytes_in, suite_of};
 
 // The standard counts in bits.
-#[derive(Drop)]
+#[derive(Clone, Copy, Debug, PartialEq, Eq)]
 pub struct Bits(pub usize);
 
 // Buffers count in bytes.
-#[derive(Drop)]
+#[derive(Clone, Copy, Debug, PartialEq, Eq)]
 pub struct Bytes(pub usize);
 
 // The one conversion.
-pub fn in_bytes(b: Bits) -> Bytes
-    ensures { result ≡ bytes_in b }
-{
-    Bytes(b.0 / 8)
+impl From<Bits> for Bytes {
+    ghost from_gives = { λ b r. r ≡ bytes_in b };
+
+    fn from(b: Bits) -> Bytes {
+        Bytes(b.0 / 8)
+    }
 }
 
 // A row of document 003, table 6.1.
-#[derive(Drop)]
+#[derive(Clone, Copy, Debug, PartialEq, Eq)]
 pub struct Suite {
     pub block: Bits,
     pub key: Bits,
@@ -28,47 +30,41 @@ pub struct Suite {
     pub columns: usize,
 }
 
-#[derive(Drop)]
-pub enum Named {
-    Known(Suite),
-    Unknown,
-}
-
 // The suite of a number, 1 to 5.
-pub fn suite_of(n: u64) -> Named
+pub fn suite_of(n: u64) -> Option<Suite>
     ensures { result ≡ suite_of n }
 {
     match n {
-        1 => Named::Known(Suite {
+        1 => Some(Suite {
             block: Bits(128),
             key: Bits(128),
             rounds: 10,
             columns: 2,
         }),
-        2 => Named::Known(Suite {
+        2 => Some(Suite {
             block: Bits(128),
             key: Bits(256),
             rounds: 14,
             columns: 2,
         }),
-        3 => Named::Known(Suite {
+        3 => Some(Suite {
             block: Bits(256),
             key: Bits(256),
             rounds: 14,
             columns: 4,
         }),
-        4 => Named::Known(Suite {
+        4 => Some(Suite {
             block: Bits(256),
             key: Bits(512),
             rounds: 18,
             columns: 4,
         }),
-        5 => Named::Known(Suite {
+        5 => Some(Suite {
             block: Bits(512),
             key: Bits(512),
             rounds: 18,
             columns: 8,
         }),
-        _ => Named::Unknown,
+        _ => None,
     }
 }

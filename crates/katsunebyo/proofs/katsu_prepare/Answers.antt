@@ -1,8 +1,5 @@
-use Rattle.katsunebyo.proofs.Told.{ended_done, ended_refused}
+use Rattle.katsunebyo.proofs.Told.{ended_told}
 use Rattle.katsunebyo.proofs.katsu_prepare.Goals as goal
 
-pub returns-in-Done : goal.returns-in-Done
-returns-in-Done c = ended_done c.prepare.result c.in-Done.n _ _ _ c.in-Done.is c.prepare.ensures
-
-pub returns-in-Refused : goal.returns-in-Refused
-returns-in-Refused c = ended_refused c.prepare.result c.in-Refused.m c.in-Refused.p _ _ _ c.in-Refused.is c.prepare.ensures
+pub returns : goal.returns
+returns c = ended_told c.prepare-told.result _ _ _ _ _ _ c.give.ensures.0 c.give.ensures.1 c.place_in.ensures c.prepare-told.ensures

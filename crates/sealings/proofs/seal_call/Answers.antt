@@ -9,29 +9,32 @@ use Rattle.sealings.proofs.seal_call.Goals as goal
 pub schedule-ks-requires : goal.schedule-ks-requires
 schedule-ks-requires c = (c.requires.0, (facts.row (call_of c.args.f) c.args.s c.args.key.now c.args.side.now c.args.text.now c.args.out.now c.requires.2).sized, facts.key_long (call_of c.args.f) c.args.s c.args.key.now c.args.side.now c.args.text.now c.args.out.now c.requires.2, (facts.row (call_of c.args.f) c.args.s c.args.key.now c.args.side.now c.args.text.now c.args.out.now c.requires.2).even, (facts.row (call_of c.args.f) c.args.s c.args.key.now c.args.side.now c.args.text.now c.args.out.now c.requires.2).most)
 
+pub invariant_of-sealer : goal.invariant_of-sealer
+invariant_of-sealer c = record { tabled = c.requires.0; width = (needs.base (call_of c.args.f) c.args.s c.args.key.now c.args.side.now c.args.text.now c.args.out.now c.requires.2 c.schedule-ks.result c.schedule-ks.ensures).0; some_rounds = (needs.base (call_of c.args.f) c.args.s c.args.key.now c.args.side.now c.args.text.now c.args.out.now c.requires.2 c.schedule-ks.result c.schedule-ks.ensures).1; few_rounds = (needs.base (call_of c.args.f) c.args.s c.args.key.now c.args.side.now c.args.text.now c.args.out.now c.requires.2 c.schedule-ks.result c.schedule-ks.ensures).2; keyed = (needs.base (call_of c.args.f) c.args.s c.args.key.now c.args.side.now c.args.text.now c.args.out.now c.requires.2 c.schedule-ks.result c.schedule-ks.ensures).3 }
+
 pub blk-requires : goal.blk-requires
-blk-requires c = (c.requires.0, (needs.base (call_of c.args.f) c.args.s c.args.key.now c.args.side.now c.args.text.now c.args.out.now c.requires.2 c.schedule-ks.result c.schedule-ks.ensures).0, (needs.base (call_of c.args.f) c.args.s c.args.key.now c.args.side.now c.args.text.now c.args.out.now c.requires.2 c.schedule-ks.result c.schedule-ks.ensures).1, (needs.base (call_of c.args.f) c.args.s c.args.key.now c.args.side.now c.args.text.now c.args.out.now c.requires.2 c.schedule-ks.result c.schedule-ks.ensures).2, (needs.base (call_of c.args.f) c.args.s c.args.key.now c.args.side.now c.args.text.now c.args.out.now c.requires.2 c.schedule-ks.result c.schedule-ks.ensures).3, (needs.blk_needs (call_of c.args.f) c.args.s c.args.key.now c.args.side.now c.args.text.now c.args.out.now c.requires.2 c.schedule-ks.result c.schedule-ks.ensures (is_blk c.args.f c.in-0.is)).0, (needs.blk_needs (call_of c.args.f) c.args.s c.args.key.now c.args.side.now c.args.text.now c.args.out.now c.requires.2 c.schedule-ks.result c.schedule-ks.ensures (is_blk c.args.f c.in-0.is)).1)
+blk-requires c = needs.blk_needs (call_of c.args.f) c.args.s c.args.key.now c.args.side.now c.args.text.now c.args.out.now c.requires.2 c.schedule-ks.result c.schedule-ks.ensures (is_blk c.args.f c.in-0.is)
 
 pub overflow_mul-result : goal.overflow_mul-result
 overflow_mul-result c = omega (arith, facts.wide (call_of c.args.f) c.args.s c.args.key.now c.args.side.now c.args.text.now c.args.out.now c.requires.2)
 
 pub ctr-requires : goal.ctr-requires
-ctr-requires c = (c.requires.0, (needs.base (call_of c.args.f) c.args.s c.args.key.now c.args.side.now c.args.text.now c.args.out.now c.requires.2 c.schedule-ks.result c.schedule-ks.ensures).0, (needs.base (call_of c.args.f) c.args.s c.args.key.now c.args.side.now c.args.text.now c.args.out.now c.requires.2 c.schedule-ks.result c.schedule-ks.ensures).1, (needs.base (call_of c.args.f) c.args.s c.args.key.now c.args.side.now c.args.text.now c.args.out.now c.requires.2 c.schedule-ks.result c.schedule-ks.ensures).2, (needs.base (call_of c.args.f) c.args.s c.args.key.now c.args.side.now c.args.text.now c.args.out.now c.requires.2 c.schedule-ks.result c.schedule-ks.ensures).3, (needs.ctr_needs (call_of c.args.f) c.args.s c.args.key.now c.args.side.now c.args.text.now c.args.out.now c.requires.2 c.schedule-ks.result c.schedule-ks.ensures (is_ctr c.args.f c.in-2.is)).0, (needs.ctr_needs (call_of c.args.f) c.args.s c.args.key.now c.args.side.now c.args.text.now c.args.out.now c.requires.2 c.schedule-ks.result c.schedule-ks.ensures (is_ctr c.args.f c.in-2.is)).1, (needs.ctr_needs (call_of c.args.f) c.args.s c.args.key.now c.args.side.now c.args.text.now c.args.out.now c.requires.2 c.schedule-ks.result c.schedule-ks.ensures (is_ctr c.args.f c.in-2.is)).2)
+ctr-requires c = needs.ctr_needs (call_of c.args.f) c.args.s c.args.key.now c.args.side.now c.args.text.now c.args.out.now c.requires.2 c.schedule-ks.result c.schedule-ks.ensures (is_ctr c.args.f c.in-2.is)
 
 pub ofb-requires : goal.ofb-requires
-ofb-requires c = (c.requires.0, (needs.base (call_of c.args.f) c.args.s c.args.key.now c.args.side.now c.args.text.now c.args.out.now c.requires.2 c.schedule-ks.result c.schedule-ks.ensures).0, (needs.base (call_of c.args.f) c.args.s c.args.key.now c.args.side.now c.args.text.now c.args.out.now c.requires.2 c.schedule-ks.result c.schedule-ks.ensures).1, (needs.base (call_of c.args.f) c.args.s c.args.key.now c.args.side.now c.args.text.now c.args.out.now c.requires.2 c.schedule-ks.result c.schedule-ks.ensures).2, (needs.base (call_of c.args.f) c.args.s c.args.key.now c.args.side.now c.args.text.now c.args.out.now c.requires.2 c.schedule-ks.result c.schedule-ks.ensures).3, (needs.ofb_needs (call_of c.args.f) c.args.s c.args.key.now c.args.side.now c.args.text.now c.args.out.now c.requires.2 c.schedule-ks.result c.schedule-ks.ensures (is_ofb c.args.f c.in-3.is)).0, (needs.ofb_needs (call_of c.args.f) c.args.s c.args.key.now c.args.side.now c.args.text.now c.args.out.now c.requires.2 c.schedule-ks.result c.schedule-ks.ensures (is_ofb c.args.f c.in-3.is)).1, (needs.ofb_needs (call_of c.args.f) c.args.s c.args.key.now c.args.side.now c.args.text.now c.args.out.now c.requires.2 c.schedule-ks.result c.schedule-ks.ensures (is_ofb c.args.f c.in-3.is)).2)
+ofb-requires c = needs.ofb_needs (call_of c.args.f) c.args.s c.args.key.now c.args.side.now c.args.text.now c.args.out.now c.requires.2 c.schedule-ks.result c.schedule-ks.ensures (is_ofb c.args.f c.in-3.is)
 
 pub cfb-requires : goal.cfb-requires
-cfb-requires c = (c.requires.0, (needs.base (call_of c.args.f) c.args.s c.args.key.now c.args.side.now c.args.text.now c.args.out.now c.requires.2 c.schedule-ks.result c.schedule-ks.ensures).0, (needs.base (call_of c.args.f) c.args.s c.args.key.now c.args.side.now c.args.text.now c.args.out.now c.requires.2 c.schedule-ks.result c.schedule-ks.ensures).1, (needs.base (call_of c.args.f) c.args.s c.args.key.now c.args.side.now c.args.text.now c.args.out.now c.requires.2 c.schedule-ks.result c.schedule-ks.ensures).2, (needs.base (call_of c.args.f) c.args.s c.args.key.now c.args.side.now c.args.text.now c.args.out.now c.requires.2 c.schedule-ks.result c.schedule-ks.ensures).3, (needs.cfb_needs (call_of c.args.f) c.args.s c.args.key.now c.args.side.now c.args.text.now c.args.out.now c.requires.2 c.schedule-ks.result c.schedule-ks.ensures (is_cfb c.args.f c.in-4.is)).0, (needs.cfb_needs (call_of c.args.f) c.args.s c.args.key.now c.args.side.now c.args.text.now c.args.out.now c.requires.2 c.schedule-ks.result c.schedule-ks.ensures (is_cfb c.args.f c.in-4.is)).1, (needs.cfb_needs (call_of c.args.f) c.args.s c.args.key.now c.args.side.now c.args.text.now c.args.out.now c.requires.2 c.schedule-ks.result c.schedule-ks.ensures (is_cfb c.args.f c.in-4.is)).2)
+cfb-requires c = needs.cfb_needs (call_of c.args.f) c.args.s c.args.key.now c.args.side.now c.args.text.now c.args.out.now c.requires.2 c.schedule-ks.result c.schedule-ks.ensures (is_cfb c.args.f c.in-4.is)
 
 pub uncfb-requires : goal.uncfb-requires
-uncfb-requires c = (c.requires.0, (needs.base (call_of c.args.f) c.args.s c.args.key.now c.args.side.now c.args.text.now c.args.out.now c.requires.2 c.schedule-ks.result c.schedule-ks.ensures).0, (needs.base (call_of c.args.f) c.args.s c.args.key.now c.args.side.now c.args.text.now c.args.out.now c.requires.2 c.schedule-ks.result c.schedule-ks.ensures).1, (needs.base (call_of c.args.f) c.args.s c.args.key.now c.args.side.now c.args.text.now c.args.out.now c.requires.2 c.schedule-ks.result c.schedule-ks.ensures).2, (needs.base (call_of c.args.f) c.args.s c.args.key.now c.args.side.now c.args.text.now c.args.out.now c.requires.2 c.schedule-ks.result c.schedule-ks.ensures).3, (needs.uncfb_needs (call_of c.args.f) c.args.s c.args.key.now c.args.side.now c.args.text.now c.args.out.now c.requires.2 c.schedule-ks.result c.schedule-ks.ensures (is_uncfb c.args.f c.in-5.is)).0, (needs.uncfb_needs (call_of c.args.f) c.args.s c.args.key.now c.args.side.now c.args.text.now c.args.out.now c.requires.2 c.schedule-ks.result c.schedule-ks.ensures (is_uncfb c.args.f c.in-5.is)).1, (needs.uncfb_needs (call_of c.args.f) c.args.s c.args.key.now c.args.side.now c.args.text.now c.args.out.now c.requires.2 c.schedule-ks.result c.schedule-ks.ensures (is_uncfb c.args.f c.in-5.is)).2, (needs.uncfb_needs (call_of c.args.f) c.args.s c.args.key.now c.args.side.now c.args.text.now c.args.out.now c.requires.2 c.schedule-ks.result c.schedule-ks.ensures (is_uncfb c.args.f c.in-5.is)).3)
+uncfb-requires c = needs.uncfb_needs (call_of c.args.f) c.args.s c.args.key.now c.args.side.now c.args.text.now c.args.out.now c.requires.2 c.schedule-ks.result c.schedule-ks.ensures (is_uncfb c.args.f c.in-5.is)
 
 pub cbc-requires : goal.cbc-requires
-cbc-requires c = (c.requires.0, (needs.base (call_of c.args.f) c.args.s c.args.key.now c.args.side.now c.args.text.now c.args.out.now c.requires.2 c.schedule-ks.result c.schedule-ks.ensures).0, (needs.base (call_of c.args.f) c.args.s c.args.key.now c.args.side.now c.args.text.now c.args.out.now c.requires.2 c.schedule-ks.result c.schedule-ks.ensures).1, (needs.base (call_of c.args.f) c.args.s c.args.key.now c.args.side.now c.args.text.now c.args.out.now c.requires.2 c.schedule-ks.result c.schedule-ks.ensures).2, (needs.base (call_of c.args.f) c.args.s c.args.key.now c.args.side.now c.args.text.now c.args.out.now c.requires.2 c.schedule-ks.result c.schedule-ks.ensures).3, (needs.cbc_needs (call_of c.args.f) c.args.s c.args.key.now c.args.side.now c.args.text.now c.args.out.now c.requires.2 c.schedule-ks.result c.schedule-ks.ensures (is_cbc c.args.f c.in-6.is)).0, (needs.cbc_needs (call_of c.args.f) c.args.s c.args.key.now c.args.side.now c.args.text.now c.args.out.now c.requires.2 c.schedule-ks.result c.schedule-ks.ensures (is_cbc c.args.f c.in-6.is)).1, (needs.cbc_needs (call_of c.args.f) c.args.s c.args.key.now c.args.side.now c.args.text.now c.args.out.now c.requires.2 c.schedule-ks.result c.schedule-ks.ensures (is_cbc c.args.f c.in-6.is)).2)
+cbc-requires c = needs.cbc_needs (call_of c.args.f) c.args.s c.args.key.now c.args.side.now c.args.text.now c.args.out.now c.requires.2 c.schedule-ks.result c.schedule-ks.ensures (is_cbc c.args.f c.in-6.is)
 
 pub cbp-requires : goal.cbp-requires
-cbp-requires c = (c.requires.0, (needs.base (call_of c.args.f) c.args.s c.args.key.now c.args.side.now c.args.text.now c.args.out.now c.requires.2 c.schedule-ks.result c.schedule-ks.ensures).0, (needs.base (call_of c.args.f) c.args.s c.args.key.now c.args.side.now c.args.text.now c.args.out.now c.requires.2 c.schedule-ks.result c.schedule-ks.ensures).1, (needs.base (call_of c.args.f) c.args.s c.args.key.now c.args.side.now c.args.text.now c.args.out.now c.requires.2 c.schedule-ks.result c.schedule-ks.ensures).2, (needs.base (call_of c.args.f) c.args.s c.args.key.now c.args.side.now c.args.text.now c.args.out.now c.requires.2 c.schedule-ks.result c.schedule-ks.ensures).3, (needs.cbp_needs (call_of c.args.f) c.args.s c.args.key.now c.args.side.now c.args.text.now c.args.out.now c.requires.2 c.schedule-ks.result c.schedule-ks.ensures (is_cbp c.args.f c.in-8.is)).0, (needs.cbp_needs (call_of c.args.f) c.args.s c.args.key.now c.args.side.now c.args.text.now c.args.out.now c.requires.2 c.schedule-ks.result c.schedule-ks.ensures (is_cbp c.args.f c.in-8.is)).1)
+cbp-requires c = needs.cbp_needs (call_of c.args.f) c.args.s c.args.key.now c.args.side.now c.args.text.now c.args.out.now c.requires.2 c.schedule-ks.result c.schedule-ks.ensures (is_cbp c.args.f c.in-8.is)
 
 pub overflow_mul-result-in-8 : goal.overflow_mul-result-in-8
 overflow_mul-result-in-8 c = omega (arith, facts.wide (call_of c.args.f) c.args.s c.args.key.now c.args.side.now c.args.text.now c.args.out.now c.requires.2)
@@ -49,13 +52,13 @@ pub overflow_mul-result-in-8-3 : goal.overflow_mul-result-in-8-3
 overflow_mul-result-in-8-3 c = omega (arith, needs.filled_short (call_of c.args.f) c.args.s c.args.key.now c.args.side.now c.args.text.now c.args.out.now c.requires.2 c.schedule-ks.result c.schedule-ks.ensures (is_cbp c.args.f c.in-8.is))
 
 pub mac-requires : goal.mac-requires
-mac-requires c = (c.requires.0, (needs.base (call_of c.args.f) c.args.s c.args.key.now c.args.side.now c.args.text.now c.args.out.now c.requires.2 c.schedule-ks.result c.schedule-ks.ensures).0, (needs.base (call_of c.args.f) c.args.s c.args.key.now c.args.side.now c.args.text.now c.args.out.now c.requires.2 c.schedule-ks.result c.schedule-ks.ensures).1, (needs.base (call_of c.args.f) c.args.s c.args.key.now c.args.side.now c.args.text.now c.args.out.now c.requires.2 c.schedule-ks.result c.schedule-ks.ensures).2, (needs.base (call_of c.args.f) c.args.s c.args.key.now c.args.side.now c.args.text.now c.args.out.now c.requires.2 c.schedule-ks.result c.schedule-ks.ensures).3, (needs.mac_needs (call_of c.args.f) c.args.s c.args.key.now c.args.side.now c.args.text.now c.args.out.now c.requires.2 c.schedule-ks.result c.schedule-ks.ensures (is_mac c.args.f c.in-10.is)).0, (needs.mac_needs (call_of c.args.f) c.args.s c.args.key.now c.args.side.now c.args.text.now c.args.out.now c.requires.2 c.schedule-ks.result c.schedule-ks.ensures (is_mac c.args.f c.in-10.is)).1)
+mac-requires c = needs.mac_needs (call_of c.args.f) c.args.s c.args.key.now c.args.side.now c.args.text.now c.args.out.now c.requires.2 c.schedule-ks.result c.schedule-ks.ensures (is_mac c.args.f c.in-10.is)
 
 pub overflow_mul-result-in-10 : goal.overflow_mul-result-in-10
 overflow_mul-result-in-10 c = omega (arith, facts.wide (call_of c.args.f) c.args.s c.args.key.now c.args.side.now c.args.text.now c.args.out.now c.requires.2)
 
 pub chk-requires : goal.chk-requires
-chk-requires c = (c.requires.0, (needs.base (call_of c.args.f) c.args.s c.args.key.now c.args.side.now c.args.text.now c.args.out.now c.requires.2 c.schedule-ks.result c.schedule-ks.ensures).0, (needs.base (call_of c.args.f) c.args.s c.args.key.now c.args.side.now c.args.text.now c.args.out.now c.requires.2 c.schedule-ks.result c.schedule-ks.ensures).1, (needs.base (call_of c.args.f) c.args.s c.args.key.now c.args.side.now c.args.text.now c.args.out.now c.requires.2 c.schedule-ks.result c.schedule-ks.ensures).2, (needs.base (call_of c.args.f) c.args.s c.args.key.now c.args.side.now c.args.text.now c.args.out.now c.requires.2 c.schedule-ks.result c.schedule-ks.ensures).3, (needs.chk_needs (call_of c.args.f) c.args.s c.args.key.now c.args.side.now c.args.text.now c.args.out.now c.requires.2 c.schedule-ks.result c.schedule-ks.ensures (is_chk c.args.f c.requires.1 c.in_default.in_default-own.rest.0.0.0.0.0.0.0.1 c.in_default.in_default-own.rest.0.0.0.0.0.0.1 c.in_default.in_default-own.rest.0.0.0.0.0.1 c.in_default.in_default-own.rest.0.0.0.0.1 c.in_default.in_default-own.rest.0.0.0.1 c.in_default.in_default-own.rest.0.0.1 c.in_default.in_default-own.rest.0.1 c.in_default.in_default-own.rest.1)).0, (needs.chk_needs (call_of c.args.f) c.args.s c.args.key.now c.args.side.now c.args.text.now c.args.out.now c.requires.2 c.schedule-ks.result c.schedule-ks.ensures (is_chk c.args.f c.requires.1 c.in_default.in_default-own.rest.0.0.0.0.0.0.0.1 c.in_default.in_default-own.rest.0.0.0.0.0.0.1 c.in_default.in_default-own.rest.0.0.0.0.0.1 c.in_default.in_default-own.rest.0.0.0.0.1 c.in_default.in_default-own.rest.0.0.0.1 c.in_default.in_default-own.rest.0.0.1 c.in_default.in_default-own.rest.0.1 c.in_default.in_default-own.rest.1)).1, (needs.chk_needs (call_of c.args.f) c.args.s c.args.key.now c.args.side.now c.args.text.now c.args.out.now c.requires.2 c.schedule-ks.result c.schedule-ks.ensures (is_chk c.args.f c.requires.1 c.in_default.in_default-own.rest.0.0.0.0.0.0.0.1 c.in_default.in_default-own.rest.0.0.0.0.0.0.1 c.in_default.in_default-own.rest.0.0.0.0.0.1 c.in_default.in_default-own.rest.0.0.0.0.1 c.in_default.in_default-own.rest.0.0.0.1 c.in_default.in_default-own.rest.0.0.1 c.in_default.in_default-own.rest.0.1 c.in_default.in_default-own.rest.1)).2, (needs.chk_needs (call_of c.args.f) c.args.s c.args.key.now c.args.side.now c.args.text.now c.args.out.now c.requires.2 c.schedule-ks.result c.schedule-ks.ensures (is_chk c.args.f c.requires.1 c.in_default.in_default-own.rest.0.0.0.0.0.0.0.1 c.in_default.in_default-own.rest.0.0.0.0.0.0.1 c.in_default.in_default-own.rest.0.0.0.0.0.1 c.in_default.in_default-own.rest.0.0.0.0.1 c.in_default.in_default-own.rest.0.0.0.1 c.in_default.in_default-own.rest.0.0.1 c.in_default.in_default-own.rest.0.1 c.in_default.in_default-own.rest.1)).3)
+chk-requires c = needs.chk_needs (call_of c.args.f) c.args.s c.args.key.now c.args.side.now c.args.text.now c.args.out.now c.requires.2 c.schedule-ks.result c.schedule-ks.ensures (is_chk c.args.f c.requires.1 c.in_default.in_default-own.rest.0.0.0.0.0.0.0.1 c.in_default.in_default-own.rest.0.0.0.0.0.0.1 c.in_default.in_default-own.rest.0.0.0.0.0.1 c.in_default.in_default-own.rest.0.0.0.0.1 c.in_default.in_default-own.rest.0.0.0.1 c.in_default.in_default-own.rest.0.0.1 c.in_default.in_default-own.rest.0.1 c.in_default.in_default-own.rest.1)
 
 pub returns-in-0 : goal.returns-in-0
 returns-in-0 c = dones.blk_done (call_of c.args.f) c.args.s c.args.key.now c.args.side.now c.args.text.now c.args.out.now c.requires.2 c.schedule-ks.result c.schedule-ks.ensures (is_blk c.args.f c.in-0.is) _ c.blk.ensures

@@ -1,4 +1,4 @@
-use borrow.Author.Tests.{ne_eqb}
+use Rattle.std.proofs.Common.{rules, tests}
 use Rattle.common.specs.Choice.{pick}
 use Rattle.suites.specs.Suites.{suite_of}
 use Rattle.suites.proofs.suite_of.Goals as goal
@@ -25,4 +25,4 @@ returns-in-5 c = rw c.in-5.is
 
 pub returns-in_default : goal.returns-in_default
 unfolding suite_of pick
-returns-in_default c = simp (ne_eqb c.args.n 1 c.in_default.in_default-own.rest.0.0.0.0.1, ne_eqb c.args.n 2 c.in_default.in_default-own.rest.0.0.0.1, ne_eqb c.args.n 3 c.in_default.in_default-own.rest.0.0.1, ne_eqb c.args.n 4 c.in_default.in_default-own.rest.0.1, ne_eqb c.args.n 5 c.in_default.in_default-own.rest.1)
+returns-in_default c = search (rules, tests)
