@@ -23,8 +23,8 @@ use Rattle.records.proofs.Shapes.{Says, shape_says}
 use Rattle.records.proofs.Back.{no_item_lem, pick_item}
 use Rattle.records.proofs.Descend.{one_part, two_parts, three_parts, four_parts, opened}
 use Rattle.kinds.proofs.Quick.{low_none}
-use Rattle.heads.specs.declared.Head.TheVariants.{Record, Cut}
-use Rattle.heads.specs.Head.{head_at}
+use Rattle.std.specs.Prelude.{None}
+use Rattle.heads.specs.Head.{headed, head_at}
 use Rattle.heads.proofs.Heads.{Stands, head_stands, head_none}
 use Rattle.folding.specs.TopDown.{arguments, kind_of}
 use Rattle.folding.specs.Parts.{Parts}
@@ -137,7 +137,7 @@ decoded_held inner (suc d) s k p t n ef e =
     less : (d : ℕ) → suc d - 1 ≡ d
     less d = omega arith
 
-pub head_held : (inner : Bool) (d : ℕ) (s : List ℕ) (k m : ℕ) (t : Tree) (n : ℕ) → head_at s 0 ≡ Record k m → decode inner d s ≡ item t n
+pub head_held : (inner : Bool) (d : ℕ) (s : List ℕ) (k m : ℕ) (t : Tree) (n : ℕ) → head_at s 0 ≡ headed k m → decode inner d s ≡ item t n
     → (p : List ℕ) × (length p ≡ m) × (front_of s ≡ front k p) × Held (decode inner (d - 1)) k p t n
 head_held inner d s k m t n eh e =
     let S : Stands s 0 k m = head_stands s 0 k m eh in
@@ -153,5 +153,5 @@ unfolding decode then_front
 cut_none inner zero s t n ef e = no_item_lem e
 cut_none inner (suc d) s t n ef e = no_item_lem (sym (ap (λ f. then_front f (λ k p. by_shape (decode inner d) (shape_of inner k) k p)) ef) ∙ e)
 
-pub head_there : (inner : Bool) (d : ℕ) (s : List ℕ) (t : Tree) (n : ℕ) → head_at s 0 ≡ Cut → decode inner d s ≡ item t n → ⊥
+pub head_there : (inner : Bool) (d : ℕ) (s : List ℕ) (t : Tree) (n : ℕ) → head_at s 0 ≡ None → decode inner d s ≡ item t n → ⊥
 head_there inner d s t n eh e = cut_none inner d s t n (head_none s 0 eh) e

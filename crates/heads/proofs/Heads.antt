@@ -2,6 +2,7 @@
 use mathlib.Core.Path.{◌≡◌, refl, ap, sym, ◌∙◌}
 use mathlib.Core.Bool.{Bool, true, false}
 use mathlib.Core.List.{List}
+use Rattle.std.specs.Prelude.{Some, None}
 use Prim.Native.Nat.{ℕ, ◌+◌, ◌-◌, ◌<◌, ◌≤◌}
 use native.Mathlib.Omega.{arith}
 use native.Mathlib.Nat.{add-zero}
@@ -13,11 +14,11 @@ use Rattle.common.specs.Choice.{pick}
 use Rattle.common.proofs.Choices.{pick_true, pick_false}
 use Rattle.records.specs.Record.{word, Front, front_of}
 use Rattle.records.specs.Record.Front.{front, cut}
-use Rattle.heads.specs.declared.Head.TheVariants.{Record, Cut}
-use Rattle.heads.specs.Head.{head_of, head_at}
+use Rattle.heads.specs.declared.Head.{Head}
+use Rattle.heads.specs.Head.{headed, head_of, head_at}
 
 -- too few bytes for a head
-pub too_few : (s : List ℕ) (at : ℕ) → length s - at < 4 → Cut ≡ head_at s at
+pub too_few : (s : List ℕ) (at : ℕ) → length s - at < 4 → None ≡ head_at s at
 unfolding head_at front_of head_of
 too_few s at h = ap head_of (sym (pick_true _ _ _ (lt-ltb (length (drop at s)) 4 (simp length-drop (omega arith)))))
 
@@ -28,7 +29,7 @@ word_drop s at i = rw (get_or-drop, get_or-drop, assoc)
     assoc = omega arith
 
 -- the payload runs over the end
-pub runs_over : (s : List ℕ) (at n : ℕ) → 4 ≤ length s - at → n ≡ word s at → length s - at - 4 < n → Cut ≡ head_at s at
+pub runs_over : (s : List ℕ) (at n : ℕ) → 4 ≤ length s - at → n ≡ word s at → length s - at - 4 < n → None ≡ head_at s at
 unfolding head_at front_of head_of
 runs_over s at n h e o =
     let l : length (drop at s) ≡ length s - at = length-drop at s in
@@ -36,7 +37,7 @@ runs_over s at n h e o =
     ap head_of (sym (pick_false _ _ _ (le-ltb (length (drop at s)) 4 (omega arith)) ∙ pick_true _ _ _ (lt-ltb (length (drop at s) - 4) (word (drop at s) 0) (omega arith))))
 
 -- a whole record
-pub whole : (s : List ℕ) (at n k : ℕ) → 4 ≤ length s - at → n ≡ word s at → k ≡ word s (at + 2) → n ≤ length s - at - 4 → Record k n ≡ head_at s at
+pub whole : (s : List ℕ) (at n k : ℕ) → 4 ≤ length s - at → n ≡ word s at → k ≡ word s (at + 2) → n ≤ length s - at - 4 → headed k n ≡ head_at s at
 unfolding head_at front_of head_of
 whole s at n k h e f o =
     let l : length (drop at s) ≡ length s - at = length-drop at s in
@@ -49,7 +50,7 @@ whole s at n k h e f o =
 no_front : {k : ℕ} {v : List ℕ} → cut ≡ front k v → ⊥
 no_front e = let z : ◌≡◌ {A = ℕ} 0 1 = cc in omega arith
 
-no_record : {k n : ℕ} → Cut ≡ Record k n → ⊥
+no_record : {k n : ℕ} → None ≡ headed k n → ⊥
 no_record e = let z : ◌≡◌ {A = ℕ} 0 1 = cc in omega arith
 
 pick_whole : (b : Bool) (f : Front) {k : ℕ} {v : List ℕ} → pick b cut f ≡ front k v → (b ≡ false) × (f ≡ front k v)
@@ -78,12 +79,21 @@ front_whole s k v e =
     let (b, e2) = pick_whole (ltb (length s - 4) (word s 0)) (front (word s 2) (take (word s 0) (drop 4 s))) e1 in
     whole_made s (word s 0) v (ltb-false (length s) 4 a) (ltb-false (length s - 4) (word s 0) b) (same_payload e2)
 
-head_record : (f : Front) (k n : ℕ) → head_of f ≡ Record k n → (v : List ℕ) × (f ≡ front k v) × (length v ≡ n)
+of_some : {g h : Head} → Some g ≡ Some h → g ≡ h
+of_some e = cc
+
+pub same_head : (k n j m : ℕ) → headed k n ≡ headed j m → (k ≡ j) × (n ≡ m)
+same_head k n j m e = let h = of_some e in (ap (λ (h : Head). h.kind) h, ap (λ (h : Head). h.length) h)
+
+pub headed_as : (h : Head) (k n : ℕ) → h.kind ≡ k → h.length ≡ n → Some h ≡ headed k n
+headed_as h k n a b = ap (λ i. headed i h.length) a ∙ ap (headed k) b
+
+head_record : (f : Front) (k n : ℕ) → head_of f ≡ headed k n → (v : List ℕ) × (f ≡ front k v) × (length v ≡ n)
 unfolding head_of
-head_record (front j v) k n e = (v, ap (λ i. front i v) (cc), cc)
+head_record (front j v) k n e = let (a, b) = same_head j (length v) k n e in (v, ap (λ i. front i v) a, b)
 head_record cut k n e = absurd (no_record e)
 
-head_cut : (f : Front) → head_of f ≡ Cut → f ≡ cut
+head_cut : (f : Front) → head_of f ≡ None → f ≡ cut
 unfolding head_of
 head_cut (front j v) e = absurd (no_record (sym e))
 head_cut cut e = refl
@@ -102,12 +112,12 @@ stands_made s at k n v e l w =
     let r : 4 + length v ≤ length (drop at s) = w.room in
     record { held = v; is = e; size = l; room = omega arith; stretch = w.payload ∙ rw (l, drop-drop) }
 
-pub head_stands : (s : List ℕ) (at k n : ℕ) → head_at s at ≡ Record k n → Stands s at k n
+pub head_stands : (s : List ℕ) (at k n : ℕ) → head_at s at ≡ headed k n → Stands s at k n
 unfolding head_at
 head_stands s at k n e =
     let (v, ef, el) = head_record (front_of (drop at s)) k n e in
     stands_made s at k n v ef el (front_whole (drop at s) k v ef)
 
-pub head_none : (s : List ℕ) (at : ℕ) → head_at s at ≡ Cut → front_of (drop at s) ≡ cut
+pub head_none : (s : List ℕ) (at : ℕ) → head_at s at ≡ None → front_of (drop at s) ≡ cut
 unfolding head_at
 head_none s at e = head_cut (front_of (drop at s)) e

@@ -6,10 +6,10 @@ ghost use Rattle.records.specs.Record.{word};
 ghost use Rattle.heads.specs.Head.{head_at};
 
 // A whole record's kind and the length of its payload.
-#[derive(Drop)]
-pub enum Head {
-    Record(usize, usize),
-    Cut,
+#[derive(Clone, Copy, Debug, PartialEq, Eq)]
+pub struct Head {
+    pub kind: usize,
+    pub length: usize,
 }
 
 // The two bytes at a place, low byte first.
@@ -20,19 +20,19 @@ pub fn word_at(s: &[u8], i: usize) -> usize
     (s[i] as usize) + 256 * (s[i + 1] as usize)
 }
 
-// The head of the record that stands at a place.
-pub fn head_at(s: &[u8], at: usize) -> Head
+// The head of the record that stands at a place; none where it is cut.
+pub fn head_at(s: &[u8], at: usize) -> Option<Head>
     ensures { result ≡ head_at s.now at }
 {
-    if s.len() < at {
-        return Head::Cut;
+    if s.len() < at || s.len() - at < 4 {
+        return None;
     }
-    if s.len() - at < 4 {
-        return Head::Cut;
+    let length = word_at(s, at);
+    if s.len() - at - 4 < length {
+        return None;
     }
-    let n = word_at(s, at);
-    if s.len() - at - 4 < n {
-        return Head::Cut;
-    }
-    Head::Record(word_at(s, at + 2), n)
+    Some(Head {
+        kind: word_at(s, at + 2),
+        length,
+    })
 }

@@ -20,7 +20,7 @@ use Rattle.records.proofs.Shapes.{leaf_shapes, call_shape_lem}
 use Rattle.kinds.specs.Tables.{opens, tables_for, tables_of}
 use Rattle.kinds.proofs.Quick.{arguments_few}
 use Rattle.tree.specs.Bounds.{of_row}
-use Rattle.image_check.specs.declared.Checked.TheVariants.{Fits, Fails}
+use Rattle.image_check.specs.Check.Counted.{Fits, Fails}
 use Rattle.image_check.specs.Check.{check_of, then_fits, several_from, call_of}
 
 zero_max : (a : ℕ) → max 0 a ≡ a

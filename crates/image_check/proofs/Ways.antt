@@ -2,6 +2,7 @@
 use mathlib.Core.Path.{◌≡◌, refl, ap, sym, ◌∙◌}
 use mathlib.Core.Bool.{Bool, true, false}
 use mathlib.Core.List.{List}
+use Rattle.std.specs.Prelude.{Option, Some, None}
 use Prim.Native.Nat.{ℕ, zero, suc, ◌+◌, ◌*◌, ◌-◌, ◌<◌, ◌≤◌, max}
 use native.Mathlib.Omega.{arith}
 use lib.Dec.{eqb, leb, ltb}
@@ -13,21 +14,19 @@ use Rattle.common.proofs.Choices.{pick_true, pick_false}
 use Rattle.tree.specs.Tree.{Tree}
 use Rattle.tree.specs.Tree.Tree.{bound, row, run}
 use Rattle.tree.specs.Bounds.{nodes, arguments_of}
-use Rattle.records.specs.Decode.{Shape, shape_of, Item, then_front, constant_in, digit_in, by_shape, decode, whole_of, image_with}
+use Rattle.kinds.specs.declared.Need.{Need}
+use Rattle.kinds.proofs.Needs.{one_need}
+use Rattle.records.specs.Decode.{Image, Shape, shape_of, Item, then_front, constant_in, digit_in, by_shape, decode, whole_of, image_with}
 use Rattle.records.specs.Decode.Shape.{aConstant, aBound, aRow, aRun, no_shape}
 use Rattle.records.specs.Decode.Item.{item, no_item}
 use Rattle.records.specs.Decode.Image.{image, no_image}
 use Rattle.records.proofs.Shapes.{leaf_shapes, bound_shape}
 use Rattle.heads.specs.declared.Head.{Head}
-use Rattle.heads.specs.declared.Head.TheVariants.{Record, Cut}
-use Rattle.heads.specs.Head.{head_at}
+use Rattle.heads.specs.Head.{headed, head_at}
 use Rattle.heads.proofs.Heads.{Stands, head_stands, head_none}
 use Rattle.kinds.specs.Tables.{tables_for, tables_of}
-use Rattle.image_check.specs.declared.Checked.{Checked}
-use Rattle.image_check.specs.declared.Checked.TheVariants.{Fits, Fails}
-use Rattle.image_check.specs.declared.Verdict.{Verdict}
-use Rattle.image_check.specs.declared.Verdict.TheVariants.{Good, NoForm}
-use Rattle.image_check.specs.Check.{check_of, digit_of, then_fits, several_from, call_of, verdict_of}
+use Rattle.image_check.specs.Check.Counted.{Fits, Fails}
+use Rattle.image_check.specs.Check.{Counted, check_of, digit_of, then_fits, several_from, call_of, needed, verdict_of}
 use Rattle.image_check.proofs.Bounds.{Counts, decode_counts}
 use Rattle.image_check.proofs.Calls.{call_several}
 
@@ -68,7 +67,7 @@ unfolding digit_of digit_in
 digit_check top name p n x = either_check (eqb (length p) 1) (ltb (get_or p 0 0) top) (name (get_or p 0 0)) (n (get_or p 0 0)) (x (get_or p 0 0))
 
 -- `by_kind`
-module _ (sub : List ℕ → Item) (inner : Bool) (k : ℕ) (p : List ℕ) (r : Checked) where
+module _ (sub : List ℕ → Item) (inner : Bool) (k : ℕ) (p : List ℕ) (r : Counted) where
   by_shape_lem : (j : ℕ) (s : Shape) → k ≡ j → shape_of inner j ≡ s → r ≡ check_of (by_shape sub s k p) → r ≡ check_of (by_shape sub (shape_of inner k) k p)
   by_shape_lem j s e f h = h ∙ ap (λ s. check_of (by_shape sub s k p)) (sym (ap (shape_of inner) e ∙ f))
 
@@ -97,7 +96,7 @@ unfolding by_shape check_of
 not_bound sub inner k p e f = by_shape_lem sub inner k p Fails 4 no_shape e (ap (λ b. shape_of b 4) f ∙ no_bound) refl
 
 -- a call, by the count of its arguments
-module _ (sub : List ℕ → Item) (inner : Bool) (k n : ℕ) (p : List ℕ) (a : Checked) (en : n ≡ arguments_of k) (z : n ≡ 0 → ⊥) (ea : a ≡ several_from sub p n 0 0 0) where
+module _ (sub : List ℕ → Item) (inner : Bool) (k n : ℕ) (p : List ℕ) (a : Counted) (en : n ≡ arguments_of k) (z : n ≡ 0 → ⊥) (ea : a ≡ several_from sub p n 0 0 0) where
   as_call : call_of k p a ≡ check_of (by_shape sub (shape_of inner k) k p)
   as_call = ap (call_of k p) ea ∙ call_several sub inner p k n en z
 
@@ -125,7 +124,7 @@ module _ (inner : Bool) (d : ℕ) (p : List ℕ) (left u m x : ℕ) where
   unfolding several_from
   several_none e = sym (ap (λ n. several_from (decode inner d) p n u m x) e)
 
-  module _ (z : left ≡ 0 → ⊥) (a : Checked) (ea : a ≡ check_of (decode inner d (take (length p - u) (drop u p)))) where
+  module _ (z : left ≡ 0 → ⊥) (a : Counted) (ea : a ≡ check_of (decode inner d (take (length p - u) (drop u p)))) where
     at_place : a ≡ check_of (decode inner d (drop u p))
     at_place = ea ∙ ap (λ q. check_of (decode inner d q)) (part_drop u p)
 
@@ -142,7 +141,7 @@ module _ (inner : Bool) (d : ℕ) (p : List ℕ) (left u m x : ℕ) where
     unfolding then_fits
     several_fails e = sym (one_more ∙ ap (λ a. then_fits a (λ v l y. several_from (decode inner d) p (left - 1) (u + v) (m + l) (max x y))) e)
 
-    pub several_more : (v l y w : ℕ) (r : Checked) → a ≡ Fits v l y → w ≡ max x y → r ≡ several_from (decode inner d) p (left - 1) (u + v) (m + l) w
+    pub several_more : (v l y w : ℕ) (r : Counted) → a ≡ Fits v l y → w ≡ max x y → r ≡ several_from (decode inner d) p (left - 1) (u + v) (m + l) w
         → r ≡ several_from (decode inner d) p left u m x
     unfolding then_fits
     several_more v l y w r e ew er =
@@ -150,7 +149,7 @@ module _ (inner : Bool) (d : ℕ) (p : List ℕ) (left u m x : ℕ) where
         ∙ sym (one_more ∙ ap (λ a. then_fits a (λ v l y. several_from (decode inner d) p (left - 1) (u + v) (m + l) (max x y))) e)
 
 -- what an answer says of what was read
-fits_item : (i : Item) (r : Checked) (u m x : ℕ) → r ≡ check_of i → r ≡ Fits u m x → (t : Tree) × (i ≡ item t u) × (nodes t ≡ m)
+fits_item : (i : Item) (r : Counted) (u m x : ℕ) → r ≡ check_of i → r ≡ Fits u m x → (t : Tree) × (i ≡ item t u) × (nodes t ≡ m)
 unfolding check_of
 fits_item (item t v) r u m x e f =
     let g : Fits v (nodes t) (tables_of t) ≡ Fits u m x = sym e ∙ f in
@@ -159,7 +158,7 @@ fits_item (item t v) r u m x e f =
     (t, ap (item t) ev, em)
 fits_item no_item r u m x e f = absurd (no_fits (sym e ∙ f))
 
-pub fits_within : (inner : Bool) (d : ℕ) (s : List ℕ) (r : Checked) (u m x : ℕ) → r ≡ check_of (decode inner d s) → r ≡ Fits u m x → (4 * m ≤ u) × (u ≤ length s)
+pub fits_within : (inner : Bool) (d : ℕ) (s : List ℕ) (r : Counted) (u m x : ℕ) → r ≡ check_of (decode inner d s) → r ≡ Fits u m x → (4 * m ≤ u) × (u ≤ length s)
 fits_within inner d s r u m x e f =
     let (t, et, em) = fits_item (decode inner d s) r u m x e f in
     let C : Counts (length s) t u = decode_counts inner d s t u et in
@@ -168,7 +167,7 @@ fits_within inner d s r u m x e f =
     (omega arith, omega arith)
 
 -- the same of an argument at place u
-pub part_within : (inner : Bool) (d : ℕ) (p : List ℕ) (w : ℕ) (r : Checked) (u m x : ℕ) → w ≤ length p → r ≡ check_of (decode inner d (take (length p - w) (drop w p))) → r ≡ Fits u m x
+pub part_within : (inner : Bool) (d : ℕ) (p : List ℕ) (w : ℕ) (r : Counted) (u m x : ℕ) → w ≤ length p → r ≡ check_of (decode inner d (take (length p - w) (drop w p))) → r ≡ Fits u m x
     → (4 * m ≤ u) × (w + u ≤ length p)
 part_within inner d p w r u m x h e f =
     let (a, b) = fits_within inner d (drop w p) r u m x (e ∙ ap (λ q. check_of (decode inner d q)) (part_drop w p)) f in
@@ -178,7 +177,7 @@ part_within inner d p w r u m x h e f =
 same_fits : {u v m n x y : ℕ} → Fits u m x ≡ Fits v n y → (u ≡ v) × (m ≡ n)
 same_fits e = (cc, cc)
 
-bounds_step : (inner : Bool) (d : ℕ) (p : List ℕ) (u m v n y : ℕ) (f : ℕ → ℕ → ℕ → Checked) (a : Checked) → u ≤ length p → 4 * m ≤ u → a ≡ check_of (decode inner d (drop u p))
+bounds_step : (inner : Bool) (d : ℕ) (p : List ℕ) (u m v n y : ℕ) (f : ℕ → ℕ → ℕ → Counted) (a : Counted) → u ≤ length p → 4 * m ≤ u → a ≡ check_of (decode inner d (drop u p))
     → ((w l z : ℕ) → u + w ≤ length p → 4 * (m + l) ≤ u + w → f w l z ≡ Fits v n y → (v ≤ length p) × (4 * n ≤ v)) → then_fits a f ≡ Fits v n y → (v ≤ length p) × (4 * n ≤ v)
 unfolding then_fits
 bounds_step inner d p u m v n y f (Fits w l z) h g q ih e =
@@ -193,7 +192,7 @@ several_bounds inner d p zero u m x v n y h g e = let (a, b) = same_fits e in (o
 several_bounds inner d p (suc left) u m x v n y h g e =
     bounds_step inner d p u m v n y _ (check_of (decode inner d (drop u p))) h g refl (λ w l z a b f. several_bounds inner d p left (u + w) (m + l) (max x z) v n y a b f) e
 
-pub several_within : (inner : Bool) (d : ℕ) (p : List ℕ) (left : ℕ) (r : Checked) (v n y : ℕ) → r ≡ several_from (decode inner d) p left 0 0 0 → r ≡ Fits v n y → (v ≤ length p) × (4 * n ≤ v)
+pub several_within : (inner : Bool) (d : ℕ) (p : List ℕ) (left : ℕ) (r : Counted) (v n y : ℕ) → r ≡ several_from (decode inner d) p left 0 0 0 → r ≡ Fits v n y → (v ≤ length p) × (4 * n ≤ v)
 several_within inner d p left r v n y e f = several_bounds inner d p left 0 0 0 v n y (omega arith) (omega arith) (sym e ∙ f)
 
 -- `record_in`
@@ -205,17 +204,17 @@ module _ (inner : Bool) (d : ℕ) (s : List ℕ) where
   unfolding decode check_of
   no_levels e = sym (ap (λ n. check_of (decode inner n s)) e)
 
-  module _ (z : d ≡ 0 → ⊥) (h : Head) (eh : h ≡ head_at s 0) where
-    pub record_cut : h ≡ Cut → Fails ≡ check_of (decode inner d s)
+  module _ (z : d ≡ 0 → ⊥) (h : Option Head) (eh : h ≡ head_at s 0) where
+    pub record_cut : h ≡ None → Fails ≡ check_of (decode inner d s)
     unfolding decode then_front check_of
     record_cut e =
         sym (ap (λ n. check_of (decode inner n s)) (suc_of d z)
         ∙ ap (λ f. check_of (then_front f (λ k p. by_shape (decode inner (d - 1)) (shape_of inner k) k p))) (head_none s 0 (sym eh ∙ e)))
 
-    pub record_room : (k n : ℕ) → h ≡ Record k n → 4 + n ≤ length s
+    pub record_room : (k n : ℕ) → h ≡ headed k n → 4 + n ≤ length s
     record_room k n e = let S = head_stands s 0 k n (sym eh ∙ e) in omega (arith, S.room)
 
-    pub record_opened : (k n : ℕ) (r : Checked) → h ≡ Record k n → r ≡ check_of (by_shape (decode inner (d - 1)) (shape_of inner k) k (take (4 + n - 4) (drop 4 s))) → r ≡ check_of (decode inner d s)
+    pub record_opened : (k n : ℕ) (r : Counted) → h ≡ headed k n → r ≡ check_of (by_shape (decode inner (d - 1)) (shape_of inner k) k (take (4 + n - 4) (drop 4 s))) → r ≡ check_of (decode inner d s)
     unfolding decode then_front
     record_opened k n r e f =
         let S : Stands s 0 k n = head_stands s 0 k n (sym eh ∙ e) in
@@ -227,11 +226,11 @@ module _ (inner : Bool) (d : ℕ) (s : List ℕ) where
         ∙ ap (λ f. check_of (then_front f (λ k p. by_shape (decode inner (d - 1)) (shape_of inner k) k p))) S.is)
 
 -- `check`
-unfoldable judged : List ℕ → Checked → Verdict
-judged s (Fits u m x) = pick (eqb u (length s)) (pick (leb m 128) (Good x) NoForm) NoForm
-judged s Fails = NoForm
+unfoldable judged : List ℕ → Counted → Option ℕ
+judged s (Fits u m x) = pick (eqb u (length s)) (pick (leb m 128) (Some x) None) None
+judged s Fails = None
 
-judge_either : (a b : Bool) (t : Tree) → verdict_of (pick a (pick b (image t) no_image) no_image) ≡ pick a (pick b (Good (tables_of t)) NoForm) NoForm
+judge_either : (a b : Bool) (t : Tree) → verdict_of (pick a (pick b (image t) no_image) no_image) ≡ pick a (pick b (Some (tables_of t)) None) None
 unfolding pick verdict_of
 judge_either true true t = refl
 judge_either true false t = refl
@@ -243,28 +242,41 @@ whole_judged s (item t u) = judge_either (eqb u (length s)) (leb (nodes t) 128) 
 whole_judged s no_item = refl
 
 module _ (inner : Bool) (s : List ℕ) where
-  pub over_long : 16384 < length s → NoForm ≡ verdict_of (image_with inner s)
+  pub over_long : 16384 < length s → None ≡ verdict_of (image_with inner s)
   unfolding image_with verdict_of
   over_long h = sym (ap verdict_of (pick_false _ _ _ (lt-leb (length s) 16384 h)))
 
-  module _ (h : length s ≤ 16384) (r : Checked) (er : r ≡ check_of (decode inner 16 s)) where
+  module _ (h : length s ≤ 16384) (r : Counted) (er : r ≡ check_of (decode inner 16 s)) where
     judging : judged s r ≡ verdict_of (image_with inner s)
     unfolding image_with
     judging = ap (judged s) er ∙ sym (ap verdict_of (pick_true _ _ _ (le-leb (length s) 16384 h)) ∙ whole_judged s (decode inner 16 s))
 
-    pub no_record : r ≡ Fails → NoForm ≡ verdict_of (image_with inner s)
+    pub no_record : r ≡ Fails → None ≡ verdict_of (image_with inner s)
     unfolding judged
     no_record e = sym (ap (judged s) e) ∙ judging
 
     module _ (u m x : ℕ) (e : r ≡ Fits u m x) where
-      pub image_good : u ≡ length s → m ≤ 128 → Good x ≡ verdict_of (image_with inner s)
+      pub image_good : u ≡ length s → m ≤ 128 → Some x ≡ verdict_of (image_with inner s)
       unfolding judged
       image_good a b = sym (ap (judged s) e ∙ pick_true _ _ _ (eq-eqb u (length s) a) ∙ pick_true _ _ _ (le-leb m 128 b)) ∙ judging
 
-      pub image_many : u ≡ length s → 128 < m → NoForm ≡ verdict_of (image_with inner s)
+      pub image_many : u ≡ length s → 128 < m → None ≡ verdict_of (image_with inner s)
       unfolding judged
       image_many a b = sym (ap (judged s) e ∙ pick_true _ _ _ (eq-eqb u (length s) a) ∙ pick_false _ _ _ (lt-leb m 128 b)) ∙ judging
 
-      pub image_trails : (u ≡ length s → ⊥) → NoForm ≡ verdict_of (image_with inner s)
+      pub image_trails : (u ≡ length s → ⊥) → None ≡ verdict_of (image_with inner s)
       unfolding judged
       image_trails a = sym (ap (judged s) e ∙ pick_false _ _ _ (ne_eqb u (length s) a)) ∙ judging
+
+-- two answers that meet the contract of `check` are equal
+pub unique : (i : Image) (r q : Option Need) → needed r ≡ verdict_of i → needed q ≡ verdict_of i → r ≡ q
+unique i r q e f = same r q (e ∙ sym f)
+  where
+    of_some : {m n : ℕ} → Some m ≡ Some n → m ≡ n
+    of_some e = cc
+
+    same : (r q : Option Need) → needed r ≡ needed q → r ≡ q
+    same (Some m) (Some n) e = ap Some (one_need m n (of_some e))
+    same (Some m) None e = cc
+    same None (Some n) e = cc
+    same None None e = refl

@@ -5,6 +5,8 @@ use Prim.Native.Nat.{ℕ, zero, suc, ◌/◌, ◌%◌, ◌<◌, ◌≤◌}
 use native.Mathlib.Omega.{arith}
 use lib.Dec.{eqb, leb, ltb}
 use borrow.Author.Tests.{eqb-true, eqb-false, eq-eqb, ne_eqb, le-leb, lt-leb, lt-ltb, le-ltb, ltb-true, ltb-false}
+use Rattle.std.specs.Prelude.{Some, None}
+use Rattle.kinds.specs.Tables.{some_if}
 use Rattle.common.specs.Choice.{pick}
 use Rattle.common.proofs.Choices.{pick_true, pick_false, pick_both}
 use Rattle.tree.specs.Calls.{calls, plain, cipher}
@@ -146,3 +148,66 @@ module _ (k : ℕ) where
 
                 pub cipher_three : 0x0115 < k → (k / 16 ≡ 0x001A → ⊥) → 3 ≡ arguments_of k
                 cipher_three h i = sym (pick_false _ _ _ (lt-leb k 0x0115 h) ∙ pick_false _ _ _ (ne_eqb (k / 16) 0x001A i)) ∙ to_suited
+
+-- what an answer says of the number
+pub if_none : (n : ℕ) → some_if n ≡ None → n ≡ 0
+unfolding some_if
+if_none zero e = refl
+if_none (suc n) e = cc
+
+pub if_some : (n m : ℕ) → some_if n ≡ Some m → (m ≡ n) × (m ≡ 0 → ⊥)
+unfolding some_if
+if_some zero m e = cc
+if_some (suc n) m e = let q : suc n ≡ m = of_some e in (sym q, λ z. omega arith)
+  where
+    of_some : {i j : ℕ} → Some i ≡ Some j → i ≡ j
+    of_some e = cc
+
+-- the answers of `arguments`
+said : (k n : ℕ) → n ≡ arguments_of k → some_if (arguments_of k) ≡ some_if n
+said k n e = ap some_if (sym e)
+
+module _ (k : ℕ) where
+  pub say_low : k < 0x0010 → some_if (arguments_of k) ≡ None
+  unfolding some_if
+  say_low h = said k 0 (low_none k h)
+
+  pub say_plain_two : 0x0010 ≤ k → k ≤ 0x0013 → some_if (arguments_of k) ≡ Some 2
+  unfolding some_if
+  say_plain_two a h = said k 2 (plain_two k a h)
+
+  pub say_plain_three : k ≡ 0x0014 → some_if (arguments_of k) ≡ Some 3
+  unfolding some_if
+  say_plain_three h = said k 3 (plain_three k (omega arith) (omega arith) h)
+
+  pub say_between : 0x0014 < k → k < 0x0100 → some_if (arguments_of k) ≡ None
+  unfolding some_if
+  say_between a h = said k 0 (between_none k (omega arith) (omega arith) (λ e. omega arith) h)
+
+  pub say_high : 0x01B5 < k → some_if (arguments_of k) ≡ None
+  unfolding some_if
+  say_high h = said k 0 (high_none k (omega arith) (omega arith) (λ e. omega arith) (omega arith) h)
+
+  module _ (d : 0x0100 ≤ k) (e : k ≤ 0x01B5) where
+    pub say_suite_none : k % 16 ≡ 0 → some_if (arguments_of k) ≡ None
+    unfolding some_if
+    say_suite_none h = said k 0 (suite_none k (omega arith) (omega arith) (λ e. omega arith) d e h)
+
+    pub say_suite_high : 5 < k % 16 → some_if (arguments_of k) ≡ None
+    unfolding some_if
+    say_suite_high h = said k 0 (suite_high k (omega arith) (omega arith) (λ e. omega arith) d e (λ e. omega arith) h)
+
+    module _ (f : k % 16 ≡ 0 → ⊥) (g : k % 16 ≤ 5) where
+      pub say_block : k ≤ 0x0115 → some_if (arguments_of k) ≡ Some 2
+      unfolding some_if
+      say_block h = said k 2 (block_two k (omega arith) (omega arith) (λ e. omega arith) d e f g h)
+
+      pub say_mac : 0x0115 < k → k / 16 ≡ 0x001A → some_if (arguments_of k) ≡ Some 2
+      unfolding some_if
+      say_mac h i = said k 2 (mac_two k (omega arith) (omega arith) (λ e. omega arith) d e f g h i)
+
+      pub say_cipher : 0x0115 < k → (k / 16 ≡ 0x001A → ⊥) → some_if (arguments_of k) ≡ Some 3
+      unfolding some_if
+      say_cipher h i = said k 3 (cipher_three k (omega arith) (omega arith) (λ e. omega arith) d e f g h i)
+
+pub ruleset ways = (say_low, say_plain_two, say_plain_three, say_between, say_high, say_suite_none, say_suite_high, say_block, say_mac, say_cipher)

@@ -1,9 +1,21 @@
 -- Which lookup tables a recipe needs: 0 none, 1 the sealing one, 2 the opening one too.
-use Rattle.std.specs.Prelude.{Bool, true, ℕ, max, ltb}
+use Rattle.std.specs.Prelude.{Bool, true, ℕ, zero, suc, max, ltb, Option, Some, None}
 use Rattle.common.specs.Choice.{pick}
 use Rattle.tree.specs.Tree.{Tree}
 use Rattle.tree.specs.Tree.Tree.{literal, bound, row, run, one, two, three, four, when}
 use Rattle.tree.specs.Bounds.{of_row}
+use Rattle.kinds.specs.declared.Need.{Need}
+use Rattle.kinds.specs.declared.Need.TheVariants.{Nothing, Sealing, Opening}
+
+-- a number of arguments; 0, a kind that is no call's
+unfoldable pub some_if : ℕ → Option ℕ
+some_if zero = None
+some_if (suc n) = Some (suc n)
+
+abbrev pub need_number : Need → ℕ
+need_number Nothing = 0
+need_number Sealing = 1
+need_number Opening = 2
 
 -- `unblk`, `uncbc` and `uncbp` open blocks (document 01, section 6: f = 1, 7, 9)
 unfoldable pub opens : ℕ → Bool

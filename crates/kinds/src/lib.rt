@@ -3,67 +3,54 @@
 
 ghost use Rattle.std.specs.Prelude.{◌≡◌, true};
 ghost use Rattle.tree.specs.Bounds.{of_row, arguments_of};
-ghost use Rattle.kinds.specs.Tables.{tables_for};
+ghost use Rattle.kinds.specs.Tables.{some_if, need_number, tables_for};
 
-// How many arguments a kind takes; 0 where it is no call's.
-pub fn arguments(k: usize) -> usize
-    ensures { result ≡ arguments_of k }
-{
-    if k < 0x0010 {
-        return 0;
-    }
-    if k <= 0x0013 {
-        return 2;
-    }
-    if k == 0x0014 {
-        return 3;
-    }
-    if k < 0x0100 {
-        return 0;
-    }
-    if 0x01B5 < k {
-        return 0;
-    }
-    let suite = k % 16;
-    if suite == 0 {
-        return 0;
-    }
-    if 5 < suite {
-        return 0;
-    }
-    if k <= 0x0115 {
-        return 2;
-    }
-    if k / 16 == 0x001A {
-        return 2;
-    }
-    3
+// Which lookup tables a call needs: none, the sealing one, or the opening one too.
+#[derive(Clone, Copy, Debug, PartialEq, Eq, PartialOrd, Ord)]
+pub enum Need {
+    Nothing,
+    Sealing,
+    Opening,
 }
 
+// How many arguments a kind takes; none where it is no call's.
+#[tactic(auto, using(crate::proofs::Quick::ways))]
+pub fn arguments(k: usize) -> Option<usize>
+    ensures { result ≡ some_if (arguments_of k) }
+{
+    match k {
+        0x0010..=0x0013 => Some(2),
+        0x0014 => Some(3),
+        0x0100..=0x01B5 => {
+            let suite = k % 16;
+            if suite == 0 || 5 < suite {
+                return None;
+            }
+            if k <= 0x0115 || k / 16 == 0x001A {
+                return Some(2);
+            }
+            Some(3)
+        }
+        _ => None,
+    }
+}
+
+#[tactic(auto, using(crate::proofs::Needs::suiting))]
 fn suited(kind: usize, k: usize) -> bool
     ensures { result ≡ of_row true kind k }
 {
-    if kind < k {
-        return k - kind <= 5;
-    }
-    false
+    kind < k && k - kind <= 5
 }
 
-// Which lookup tables a call needs: none, the sealing one, or the opening one too.
-pub fn tables_for(k: usize) -> usize
-    ensures { result ≡ tables_for k }
+#[tactic(auto, using(crate::proofs::Needs::needs))]
+pub fn tables_for(k: usize) -> Need
+    ensures { need_number result ≡ tables_for k }
 {
-    if suited(0x0110, k) {
-        return 2;
-    }
-    if suited(0x0170, k) {
-        return 2;
-    }
-    if suited(0x0190, k) {
-        return 2;
+    if suited(0x0110, k) || suited(0x0170, k) || suited(0x0190, k) {
+        return Need::Opening;
     }
     if 0x0100 < k {
-        return 1;
+        return Need::Sealing;
     }
-    0
+    Need::Nothing
 }

@@ -2,6 +2,7 @@
 use mathlib.Core.Path.{◌≡◌, refl, ap, sym, ◌∙◌, subst}
 use mathlib.Core.Bool.{Bool}
 use mathlib.Core.List.{List}
+use Rattle.std.specs.Prelude.{Option, Some, None}
 use Prim.Native.Nat.{ℕ, zero, suc, ◌+◌}
 use native.Mathlib.Omega.{arith}
 use lib.Dec.{eqb, leb, ltb}
@@ -27,11 +28,9 @@ use Rattle.records.proofs.Sizes.{same_item}
 use Rattle.lists.specs.Entries.{Entry, bound_list, row_list, run_list, list_of}
 use Rattle.lists.specs.Entries.Listed.{listed}
 use Rattle.lists.specs.Given.{value_of}
-use Rattle.heads.specs.declared.Head.TheVariants.{Record}
-use Rattle.heads.specs.Head.{head_of, head_at}
+use Rattle.heads.specs.Head.{headed, head_of, head_at}
 use Rattle.heads.proofs.Heads.{Whole, front_whole}
-use Rattle.listing.specs.declared.Found.{Found}
-use Rattle.listing.specs.declared.Found.TheVariants as found
+use Rattle.listing.specs.declared.Stretch.{Stretch}
 use Rattle.listing.specs.Find.{find_in, stretch_of}
 use Rattle.listing.proofs.Finding.{found_value}
 use Rattle.leaf.specs.Place.{place_in, place_of, placed, leaf_in}
@@ -71,10 +70,10 @@ module _ (sub : List ℕ → Item) (inner : Bool) (k : ℕ) (p : List ℕ) (t : 
   shape_leaf no_shape q e = absurd (no_item_lem e)
 
 -- a name that is found is where its stretch stands
-placed_found : (image list : List ℕ) (f : Found) → placed image list (place_in f) ≡ stretch_of list f
+placed_found : (image list : List ℕ) (f : Option Stretch) → placed image list (place_in f) ≡ stretch_of list f
 unfolding placed place_in stretch_of
-placed_found image list (found.At start n) = refl
-placed_found image list found.Nowhere = refl
+placed_found image list (Some at) = refl
+placed_found image list None = refl
 
 -- a leaf, and no call
 unfoldable pub IsLeaf : Tree → Type 0
@@ -88,7 +87,7 @@ IsLeaf (three k a b c) = ⊥
 IsLeaf (four k a b c d) = ⊥
 IsLeaf (when c a b) = ⊥
 
-head_front : (s : List ℕ) (at k : ℕ) (p : List ℕ) → front_of (drop at s) ≡ front k p → Record k (length p) ≡ head_at s at
+head_front : (s : List ℕ) (at k : ℕ) (p : List ℕ) → front_of (drop at s) ≡ front k p → headed k (length p) ≡ head_at s at
 unfolding head_at head_of
 head_front s at k p e = sym (ap head_of e)
 
@@ -112,17 +111,17 @@ module _ (image : List ℕ) (at : ℕ) (list : List ℕ) (k : ℕ) (p : List ℕ
   leaf_place : (t : Tree) → IsLeaf t → Says-leaf k p t → placed image list (place_of image at list) ≡ leaf_in f t
   unfolding IsLeaf Says-leaf leaf_in placed
   leaf_place (literal v) l s =
-      sym (ap (placed image list) (place_image image at list (Record k (length p)) (head_front image at k p e) k (length p) refl s.0))
+      sym (ap (placed image list) (place_image image at list (headed k (length p)) (head_front image at k p e) k (length p) refl s.0))
       ∙ ap given (constant_at ∙ s.1)
   leaf_place (bound n) l s =
       name_placed bound_list n s.1 s.2
-      (place_bound image at list (Record k (length p)) (head_front image at k p e) k (length p) refl (λ q. omega (arith, s.0)) s.1 (λ q. omega (arith, s.0)) (λ q. omega (arith, s.0)) _ s.0 refl)
+      (place_bound image at list (headed k (length p)) (head_front image at k p e) k (length p) refl (λ q. omega (arith, s.0)) s.1 (λ q. omega (arith, s.0)) (λ q. omega (arith, s.0)) _ s.0 refl)
   leaf_place (row n) l s =
       name_placed row_list n s.1 s.2
-      (place_row image at list (Record k (length p)) (head_front image at k p e) k (length p) refl (λ q. omega (arith, s.0)) s.1 _ s.0 refl)
+      (place_row image at list (headed k (length p)) (head_front image at k p e) k (length p) refl (λ q. omega (arith, s.0)) s.1 _ s.0 refl)
   leaf_place (run n) l s =
       name_placed run_list n s.1 s.2
-      (place_run image at list (Record k (length p)) (head_front image at k p e) k (length p) refl (λ q. omega (arith, s.0)) s.1 (λ q. omega (arith, s.0)) _ s.0 refl)
+      (place_run image at list (headed k (length p)) (head_front image at k p e) k (length p) refl (λ q. omega (arith, s.0)) s.1 (λ q. omega (arith, s.0)) _ s.0 refl)
   leaf_place (one j a) l s = absurd l
   leaf_place (two j a b) l s = absurd l
   leaf_place (three j a b c) l s = absurd l

@@ -5,75 +5,60 @@ ghost use Rattle.std.specs.Prelude.{◌≡◌, take, drop};
 ghost use Rattle.listing.specs.Find.{find_in};
 ghost use Rattle.leaf.specs.Place.{place_in, place_of, placed, bytes_of};
 
-use heads::Head;
-use listing::Found;
+use listing::Stretch;
 
-// Where a leaf's value stands, and how long it is.
-#[derive(Drop)]
+// Where a leaf's value stands.
+#[derive(Clone, Copy, Debug, PartialEq, Eq)]
 pub enum Place {
-    Image(usize, usize),
-    List(usize, usize),
-    Nowhere,
+    Image(Stretch),
+    List(Stretch),
 }
 
-fn named(list: &[u8], kind: usize) -> Place
+fn named(list: &[u8], kind: usize) -> Option<Place>
     ensures { result ≡ place_in (find_in list.now kind) }
 {
-    match listing::find(list, kind) {
-        Found::At(start, n) => Place::List(start, n),
-        Found::Nowhere => Place::Nowhere,
-    }
+    Some(Place::List(listing::find(list, kind)?))
 }
 
 // Where the value of the leaf that stands at a place of the image is.
-pub fn place_of(image: &[u8], at: usize, list: &[u8]) -> Place
+pub fn place_of(image: &[u8], at: usize, list: &[u8]) -> Option<Place>
     ensures { result ≡ place_of image.now at list.now }
 {
-    match heads::head_at(image, at) {
-        Head::Cut => Place::Nowhere,
-        Head::Record(k, n) => {
-            if k == 0x0001 {
-                return Place::Image(at + 4, n);
-            }
-            if n == 1 {
-                let d = image[at + 4] as usize;
-                if k == 0x0002 {
-                    return named(list, 0x0300 + d);
-                }
-                if k == 0x0003 {
-                    return named(list, 0x0400 + d);
-                }
-                if k == 0x0004 {
-                    return named(list, 0x0200 + d);
-                }
-                return Place::Nowhere;
-            }
-            Place::Nowhere
-        }
+    let head = heads::head_at(image, at)?;
+    if head.kind == 0x0001 {
+        return Some(Place::Image(Stretch {
+            start: at + 4,
+            length: head.length,
+        }));
     }
+    if head.length == 1 {
+        let d = image[at + 4] as usize;
+        return match head.kind {
+            0x0002 => named(list, 0x0300 + d),
+            0x0003 => named(list, 0x0400 + d),
+            0x0004 => named(list, 0x0200 + d),
+            _ => None,
+        };
+    }
+    None
 }
 
 // A stretch of a slice, as much of it as is there.
-fn part<'a>(s: &'a [u8], start: usize, n: usize) -> &'a [u8]
-    ensures { result.now ≡ take n (drop start s.now) }
+fn part<'a>(s: &'a [u8], p: Stretch) -> &'a [u8]
+    ensures { result.now ≡ take p.length (drop p.start s.now) }
 {
-    if s.len() < start {
-        return &s[..0];
-    }
-    if s.len() - start < n {
-        return &s[start..];
-    }
-    let e = start + n;
-    &s[start..e]
+    let start = p.start.min(s.len());
+    let end = start + p.length.min(s.len() - start);
+    &s[start..end]
 }
 
 // The part of whichever holds the value.
-pub fn leaf<'a>(image: &'a [u8], list: &'a [u8], place: Place) -> &'a [u8]
+pub fn leaf<'a>(image: &'a [u8], list: &'a [u8], place: Option<Place>) -> &'a [u8]
     ensures { result.now ≡ bytes_of (placed image.now list.now place) }
 {
     match place {
-        Place::Image(start, n) => part(image, start, n),
-        Place::List(start, n) => part(list, start, n),
-        Place::Nowhere => &image[..0],
+        Some(Place::Image(p)) => part(image, p),
+        Some(Place::List(p)) => part(list, p),
+        None => &image[..0],
     }
 }

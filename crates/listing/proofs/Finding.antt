@@ -2,6 +2,7 @@
 use mathlib.Core.Path.{◌≡◌, refl, ap, sym, ◌∙◌}
 use mathlib.Core.Bool.{Bool, true, false}
 use mathlib.Core.List.{List}
+use Rattle.std.specs.Prelude.{Option, Some, None, Ok, Err}
 use Prim.Native.Nat.{ℕ, zero, suc, ◌+◌, ◌-◌, ◌≤◌}
 use native.Mathlib.Omega.{arith}
 use lib.Dec.{eqb}
@@ -20,12 +21,9 @@ use Rattle.lists.specs.Given.{value_of}
 use Rattle.lists.specs.Seek.{if_kind, seek}
 use Rattle.lists.proofs.Seek.{seek_value}
 use Rattle.heads.proofs.Heads.{Stands}
-use Rattle.listing.specs.Walk.{entry_at}
-use Rattle.listing.specs.Find.{if_entry, find_from, find_in, stretch_of}
-use Rattle.listing.specs.declared.Entry.{Entry}
-use Rattle.listing.specs.declared.Entry.TheVariants.{Of, End, Bad}
-use Rattle.listing.specs.declared.Found.{Found}
-use Rattle.listing.specs.declared.Found.TheVariants.{At, Nowhere}
+use Rattle.listing.specs.Walk.{Placed, Of, End, Bad, entry_at}
+use Rattle.listing.specs.Find.{At, if_entry, find_from, find_in, stretch_of}
+use Rattle.listing.specs.declared.Stretch.{Stretch}
 use Rattle.listing.proofs.Entries.{Holds, entry_holds, entry_cuts, entry_end}
 
 -- what holds before each record of the search
@@ -38,22 +36,22 @@ pub sought_starts : (s : List ℕ) (k : ℕ) → Sought s k 0
 unfolding find_in
 sought_starts s k = record { left = length s; enough = omega arith; same = refl }
 
-one_more : (n m : ℕ) (s : List ℕ) (at k : ℕ) (e : Entry) → n ≡ suc m → entry_at s at ≡ e → find_from n s at k ≡ if_entry k e (λ to. find_from m s to k)
+one_more : (n m : ℕ) (s : List ℕ) (at k : ℕ) (e : Placed) → n ≡ suc m → entry_at s at ≡ e → find_from n s at k ≡ if_entry k e (λ to. find_from m s to k)
 unfolding find_from
 one_more n m s at k e h q = ap (λ n. find_from n s at k) h ∙ ap (λ e. if_entry k e (λ to. find_from m s to k)) q
 
-none_here : (n : ℕ) (s : List ℕ) (at k : ℕ) (e : Entry) → entry_at s at ≡ e → ((more : ℕ → Found) → if_entry k e more ≡ Nowhere) → find_from n s at k ≡ Nowhere
+none_here : (n : ℕ) (s : List ℕ) (at k : ℕ) (e : Placed) → entry_at s at ≡ e → ((more : ℕ → Option Stretch) → if_entry k e more ≡ None) → find_from n s at k ≡ None
 unfolding find_from
 none_here zero s at k e q f = refl
 none_here (suc n) s at k e q f = ap (λ e. if_entry k e (λ to. find_from n s to k)) q ∙ f _
 
 module _ (s : List ℕ) (k at : ℕ) (S : Sought s k at) where
   -- the ways of `find`
-  pub found_none : (e : Entry) → e ≡ entry_at s at → e ≡ End → Nowhere ≡ find_in s k
+  pub found_none : (e : Placed) → e ≡ entry_at s at → e ≡ End → None ≡ find_in s k
   unfolding if_entry
   found_none e q f = sym (S.same ∙ none_here S.left s at k End (sym q ∙ f) (λ more. refl))
 
-  pub found_bad : (e : Entry) → e ≡ entry_at s at → e ≡ Bad → Nowhere ≡ find_in s k
+  pub found_bad : (e : Placed) → e ≡ entry_at s at → e ≡ Bad → None ≡ find_in s k
   unfolding if_entry
   found_bad e q f = sym (S.same ∙ none_here S.left s at k Bad (sym q ∙ f) (λ more. refl))
 
@@ -76,7 +74,7 @@ module _ (s : List ℕ) (k at : ℕ) (S : Sought s k at) where
         }
 
 -- the stretch that is found holds what walking the bytes finds
-pick_stretch : (b : Bool) (s : List ℕ) (x y : Found) → stretch_of s (pick b x y) ≡ pick b (stretch_of s x) (stretch_of s y)
+pick_stretch : (b : Bool) (s : List ℕ) (x y : Option Stretch) → stretch_of s (pick b x y) ≡ pick b (stretch_of s x) (stretch_of s y)
 unfolding pick
 pick_stretch true s x y = refl
 pick_stretch false s x y = refl
@@ -101,11 +99,11 @@ module _ (m : ℕ) (s : List ℕ) (at k : ℕ) (ih : (to : ℕ) → stretch_of s
       ∙ ap (pick (eqb j k) (given S.held)) (ih (start + n) ∙ sym (ap (λ r. seek m r k) (drop-drop (4 + length S.held) at s ∙ ap (λ i. drop i s) to)))
       ∙ sym (ap (λ f. if_kind k f (λ v. seek m (drop (4 + length v) (drop at s)) k)) S.is)
 
-  entry_step : (e : Entry) → entry_at s at ≡ e → stretch_of s (if_entry k e (λ to. find_from m s to k)) ≡ seek (suc m) (drop at s) k
+  entry_step : (e : Placed) → entry_at s at ≡ e → stretch_of s (if_entry k e (λ to. find_from m s to k)) ≡ seek (suc m) (drop at s) k
   unfolding if_entry stretch_of
-  entry_step (Of j start n) q = record_step j start n (entry_holds s at j start n q)
-  entry_step End q = let d = length-drop at s in let l = entry_end s at q in cut_step (nothing_left (drop at s) (omega arith))
-  entry_step Bad q = cut_step (entry_cuts s at q).none
+  entry_step (Ok (Some e)) q = record_step e.kind e.start e.length (entry_holds s at e.kind e.start e.length q)
+  entry_step (Ok None) q = let d = length-drop at s in let l = entry_end s at q in cut_step (nothing_left (drop at s) (omega arith))
+  entry_step (Err c) q = cut_step (entry_cuts s at q).none
 
 pub found_sought : (n : ℕ) (s : List ℕ) (at k : ℕ) → stretch_of s (find_from n s at k) ≡ seek n (drop at s) k
 unfolding find_from seek stretch_of
@@ -118,11 +116,11 @@ unfolding find_in
 found_value taken s es hs e k = found_sought (length s) s 0 k ∙ seek_value taken s es hs e (length s) k (omega arith)
 
 -- a stretch that is found lies in the list
-unfoldable pub Inside : List ℕ → Found → Type 0
-Inside s (At start n) = start + n ≤ length s
-Inside s Nowhere = Unit {0}
+unfoldable pub Inside : List ℕ → Option Stretch → Type 0
+Inside s (Some at) = at.start + at.length ≤ length s
+Inside s None = Unit {0}
 
-inside-either : (b : Bool) (s : List ℕ) (x y : Found) → Inside s x → Inside s y → Inside s (pick b x y)
+inside-either : (b : Bool) (s : List ℕ) (x y : Option Stretch) → Inside s x → Inside s y → Inside s (pick b x y)
 unfolding pick
 inside-either true s x y f g = f
 inside-either false s x y f g = g
@@ -131,11 +129,11 @@ inside-record : (s : List ℕ) (at j start n : ℕ) → Holds s at j start n →
 unfolding Inside
 inside-record s at j start n H = omega (arith, H.begins, H.stands.room)
 
-inside-step : (s : List ℕ) (at k : ℕ) (more : ℕ → Found) (e : Entry) → entry_at s at ≡ e → ((to : ℕ) → Inside s (more to)) → Inside s (if_entry k e more)
+inside-step : (s : List ℕ) (at k : ℕ) (more : ℕ → Option Stretch) (e : Placed) → entry_at s at ≡ e → ((to : ℕ) → Inside s (more to)) → Inside s (if_entry k e more)
 unfolding if_entry Inside
-inside-step s at k more (Of j start n) q ih = inside-either (eqb j k) s _ _ (inside-record s at j start n (entry_holds s at j start n q)) (ih (start + n))
-inside-step s at k more End q ih = tt
-inside-step s at k more Bad q ih = tt
+inside-step s at k more (Ok (Some e)) q ih = inside-either (eqb e.kind k) s _ _ (inside-record s at e.kind e.start e.length (entry_holds s at e.kind e.start e.length q)) (ih (e.start + e.length))
+inside-step s at k more (Ok None) q ih = tt
+inside-step s at k more (Err c) q ih = tt
 
 pub found_inside : (n : ℕ) (s : List ℕ) (at k : ℕ) → Inside s (find_from n s at k)
 unfolding find_from Inside

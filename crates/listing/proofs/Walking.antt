@@ -20,27 +20,22 @@ use Rattle.listing.specs.Walk.{taken_in, is_good, slot_of}
 use Rattle.listing.proofs.Slots.{slot_taken, slot_none, slot_own}
 use Rattle.listing.proofs.Entries.{Holds, Cuts}
 
--- a kind that was met is marked 1
-unfoldable pub mark : Bool → ℕ
-mark true = 1
-mark false = 0
-
 -- `met` are the kinds before the place, at most `left` records are to come
-pub record Before (run : Bool) (s : List ℕ) (seen : List ℕ) (at : ℕ) : Type 0 where
+pub record Before (run : Bool) (s : List ℕ) (seen : List Bool) (at : ℕ) : Type 0 where
   pub met : List ℕ
   pub left : ℕ
   pub enough : length s ≤ at + left
   pub sized : length seen ≡ 16
-  pub marks : (k : ℕ) → taken_in run k ≡ true → get_or seen (slot_of run k) 0 ≡ mark (among met k)
+  pub marks : (k : ℕ) → taken_in run k ≡ true → get_or seen (slot_of run k) false ≡ among met k
   pub same : is_good (list_of (taken_in run) s) ≡ is_good (walk (taken_in run) left met (drop at s))
 
-none_marked : (n i : ℕ) → ◌≡◌ {A = ℕ} (get_or (replicate n 0) i 0) 0
+none_marked : (n i : ℕ) → get_or (replicate n false) i false ≡ false
 none_marked zero i = refl
 none_marked (suc n) zero = refl
 none_marked (suc n) (suc i) = none_marked n i
 
-pub walking_starts : (run : Bool) (s : List ℕ) → Before run s (replicate 16 0) 0
-unfolding list_of among mark
+pub walking_starts : (run : Bool) (s : List ℕ) → Before run s (replicate 16 false) 0
+unfolding list_of among
 walking_starts run s =
     record { met = []; left = length s; enough = omega arith; sized = refl; marks = λ k e. none_marked 16 (slot_of run k); same = refl }
 
@@ -58,16 +53,6 @@ pub found_bad : (l : Listed) → is_good l ≡ false → l ≡ bad_list
 unfolding is_good
 found_bad (listed es) e = absurd (true_false e)
 found_bad bad_list e = refl
-
-marked : (b : Bool) → mark b ≡ 1 → b ≡ true
-unfolding mark
-marked true e = refl
-marked false e = absurd (omega arith)
-
-unmarked : (b : Bool) → (mark b ≡ 1 → ⊥) → b ≡ false
-unfolding mark
-unmarked true e = absurd (e refl)
-unmarked false e = refl
 
 -- one step of the walk over the bytes
 module _ (taken : ℕ → Bool) (n : ℕ) (met r : List ℕ) where
@@ -107,7 +92,7 @@ module _ (taken : ℕ → Bool) (n : ℕ) (met r : List ℕ) where
     unfolding then_entry
     fits_good a b c = ap is_good (walk_some (front k v) e h ∙ pick_true _ _ _ a ∙ pick_false _ _ _ b ∙ pick_true _ _ _ (le-leb _ _ c)) ∙ with_good (entry k v) _
 
-module _ (run : Bool) (s : List ℕ) (seen : List ℕ) (at : ℕ) (W : Before run s seen at) where
+module _ (run : Bool) (s : List ℕ) (seen : List Bool) (at : ℕ) (W : Before run s seen at) where
   -- the list's end
   pub good_end : length s ≤ at → true ≡ is_good (list_of (taken_in run) s)
   good_end h = sym (W.same ∙ empty_good (taken_in run) W.left W.met (drop at s) (length-drop at s ∙ omega arith))
@@ -126,7 +111,7 @@ module _ (run : Bool) (s : List ℕ) (seen : List ℕ) (at : ℕ) (W : Before ru
   pub good_cut : Cuts s at → false ≡ is_good (list_of (taken_in run) s)
   good_cut C = sym (same_more C.inside ∙ cut_bad (taken_in run) (W.left - 1) W.met (drop at s) C.none (some_left C.inside))
 
-  module _ (k start n i : ℕ) (H : Holds s at k start n) (ei : i ≡ slot_of run k) where
+  module _ (k start n : ℕ) (H : Holds s at k start n) where
     abbrev S : Stands s at k n
     S = H.stands
 
@@ -134,57 +119,58 @@ module _ (run : Bool) (s : List ℕ) (seen : List ℕ) (at : ℕ) (W : Before ru
     inside = omega (arith, S.room)
 
     -- a kind that is not taken
-    pub good_other : 16 ≤ i → false ≡ is_good (list_of (taken_in run) s)
+    pub good_other : 16 ≤ slot_of run k → false ≡ is_good (list_of (taken_in run) s)
     good_other h =
-        sym (same_more inside ∙ other_bad (taken_in run) (W.left - 1) W.met (drop at s) k S.held S.is (some_left inside) (slot_none run k (omega arith)))
+        sym (same_more inside ∙ other_bad (taken_in run) (W.left - 1) W.met (drop at s) k S.held S.is (some_left inside) (slot_none run k h))
 
-    taken : i < 16 → taken_in run k ≡ true
-    taken h = slot_taken run k (omega arith)
+    module _ (i : ℕ) (ei : i ≡ slot_of run k) (low : i < 16) where
+      taken : taken_in run k ≡ true
+      taken = slot_taken run k (omega arith)
 
-    seen_mark : i < 16 → get_or seen i 0 ≡ mark (among W.met k)
-    seen_mark h = ap (λ j. get_or seen j 0) ei ∙ W.marks k (taken h)
+      seen_met : get_or seen i false ≡ among W.met k
+      seen_met = ap (λ j. get_or seen j false) ei ∙ W.marks k (taken)
 
-    -- a kind met before
-    pub good_twice : i < 16 → get_or seen i 0 ≡ 1 → false ≡ is_good (list_of (taken_in run) s)
-    good_twice h e =
-        sym (same_more inside ∙ twice_bad (taken_in run) (W.left - 1) W.met (drop at s) k S.held S.is (some_left inside) (taken h) (marked (among W.met k) (sym (seen_mark h) ∙ e)))
+      -- a kind met before
+      pub good_twice : get_or seen i false ≡ true → false ≡ is_good (list_of (taken_in run) s)
+      good_twice e =
+          sym (same_more inside ∙ twice_bad (taken_in run) (W.left - 1) W.met (drop at s) k S.held S.is (some_left inside) (taken) (sym (seen_met) ∙ e))
 
-    fresh : i < 16 → (get_or seen i 0 ≡ 1 → ⊥) → among W.met k ≡ false
-    fresh h e = unmarked (among W.met k) (λ q. e (seen_mark h ∙ q))
+      fresh : get_or seen i false ≡ false → among W.met k ≡ false
+      fresh e = sym (seen_met) ∙ e
 
-    -- a value over 1,024 bytes
-    pub good_long : i < 16 → (get_or seen i 0 ≡ 1 → ⊥) → 1024 < n → false ≡ is_good (list_of (taken_in run) s)
-    good_long h e l =
-        sym (same_more inside ∙ long_bad (taken_in run) (W.left - 1) W.met (drop at s) k S.held S.is (some_left inside) (taken h) (fresh h e) (omega (arith, S.size)))
+      -- a value over 1,024 bytes
+      pub good_long : get_or seen i false ≡ false → 1024 < n → false ≡ is_good (list_of (taken_in run) s)
+      good_long e l =
+          sym (same_more inside ∙ long_bad (taken_in run) (W.left - 1) W.met (drop at s) k S.held S.is (some_left inside) (taken) (fresh e) (omega (arith, S.size)))
 
-    marks_more : i < 16 → (j : ℕ) → taken_in run j ≡ true → get_or (set seen i 1) (slot_of run j) 0 ≡ mark (among (k ∷ W.met) j)
-    unfolding among mark
-    marks_more h j t =
-        bool_cases (λ b. get_or (set seen i 1) (slot_of run j) 0 ≡ mark (pick b true (among W.met j))) (eqb k j) (λ e. same_slot (eqb-true k j e)) (λ e. other_slot (eqb-false k j e))
-      where
-        same_slot : k ≡ j → get_or (set seen i 1) (slot_of run j) 0 ≡ mark (pick (eqb k j) true (among W.met j))
-        same_slot q =
-            ap (λ m. get_or (set seen i 1) m 0) (sym (ei ∙ ap (slot_of run) q)) ∙ get_or-set_same seen i 1 0 (omega (arith, W.sized)) ∙ sym (ap mark (pick_true _ _ _ (eq-eqb k j q)))
+      marks_more : (j : ℕ) → taken_in run j ≡ true → get_or (set seen i true) (slot_of run j) false ≡ among (k ∷ W.met) j
+      unfolding among
+      marks_more j t =
+          bool_cases (λ b. get_or (set seen i true) (slot_of run j) false ≡ pick b true (among W.met j)) (eqb k j) (λ e. same_slot (eqb-true k j e)) (λ e. other_slot (eqb-false k j e))
+        where
+          same_slot : k ≡ j → get_or (set seen i true) (slot_of run j) false ≡ pick (eqb k j) true (among W.met j)
+          same_slot q =
+              ap (λ m. get_or (set seen i true) m false) (sym (ei ∙ ap (slot_of run) q)) ∙ get_or-set_same seen i true false (omega (arith, W.sized)) ∙ sym (pick_true _ _ _ (eq-eqb k j q))
 
-        other_slot : (k ≡ j → ⊥) → get_or (set seen i 1) (slot_of run j) 0 ≡ mark (pick (eqb k j) true (among W.met j))
-        other_slot q =
-            get_or-set_other seen i (slot_of run j) 1 0 (λ e. q (slot_own run k j (taken h) t (sym ei ∙ sym e))) ∙ W.marks j t ∙ sym (ap mark (pick_false _ _ _ (ne_eqb k j q)))
+          other_slot : (k ≡ j → ⊥) → get_or (set seen i true) (slot_of run j) false ≡ pick (eqb k j) true (among W.met j)
+          other_slot q =
+              get_or-set_other seen i (slot_of run j) true false (λ e. q (slot_own run k j (taken) t (sym ei ∙ sym e))) ∙ W.marks j t ∙ sym (pick_false _ _ _ (ne_eqb k j q))
 
-    -- the walk goes on after the record
-    pub good_step : i < 16 → (get_or seen i 0 ≡ 1 → ⊥) → n ≤ 1024 → Before run s (set seen i 1) (start + n)
-    good_step h e l =
-        let to : at + (4 + length S.held) ≡ start + n = omega (arith, S.size, H.begins) in
-        record {
-          met = k ∷ W.met;
-          left = W.left - 1;
-          enough = omega (arith, W.enough, H.begins, inside);
-          sized = length-set seen i 1 ∙ W.sized;
-          marks = marks_more h;
-          same =
-              same_more inside
-              ∙ fits_good (taken_in run) (W.left - 1) W.met (drop at s) k S.held S.is (some_left inside) (taken h) (fresh h e) (omega (arith, S.size))
-              ∙ ap (λ r. is_good (walk (taken_in run) (W.left - 1) (k ∷ W.met) r)) (drop-drop (4 + length S.held) at s ∙ ap (λ m. drop m s) to);
-        }
+      -- the walk goes on after the record
+      pub good_step : get_or seen i false ≡ false → n ≤ 1024 → Before run s (set seen i true) (start + n)
+      good_step e l =
+          let to : at + (4 + length S.held) ≡ start + n = omega (arith, S.size, H.begins) in
+          record {
+            met = k ∷ W.met;
+            left = W.left - 1;
+            enough = omega (arith, W.enough, H.begins, inside);
+            sized = length-set seen i true ∙ W.sized;
+            marks = marks_more;
+            same =
+                same_more inside
+                ∙ fits_good (taken_in run) (W.left - 1) W.met (drop at s) k S.held S.is (some_left inside) (taken) (fresh e) (omega (arith, S.size))
+                ∙ ap (λ r. is_good (walk (taken_in run) (W.left - 1) (k ∷ W.met) r)) (drop-drop (4 + length S.held) at s ∙ ap (λ m. drop m s) to);
+          }
 
 -- the place after a record is still in the list
 pub goes_on : (s : List ℕ) (at k start n : ℕ) → Holds s at k start n → (at < start + n) × (start + n ≤ length s)

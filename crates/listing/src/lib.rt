@@ -2,19 +2,21 @@
 #![tactic(auto)]
 
 ghost use Rattle.std.specs.Prelude.{◌≡◌, ◌+◌, ◌<◌};
-ghost use Rattle.lists.specs.Entries.{between, list_of};
-ghost use Rattle.listing.specs.Walk.{entry_at, slot_of, taken_in, is_good};
+ghost use Rattle.lists.specs.Entries.{list_of};
+ghost use Rattle.listing.specs.Walk.{entry_at, slot_of, some_low, taken_in, is_good};
 ghost use Rattle.listing.specs.Find.{find_in};
 
-use heads::Head;
-
-// What stands at a place: a record's kind, where its payload starts and how long it is.
-#[derive(Drop)]
-pub enum Entry {
-    Of(usize, usize, usize),
-    End,
-    Bad,
+// A record of a list: its kind, where its payload starts and how long it is.
+#[derive(Clone, Copy, Debug, PartialEq, Eq)]
+pub struct Entry {
+    pub kind: usize,
+    pub start: usize,
+    pub length: usize,
 }
+
+// Bytes that are no whole record.
+#[derive(Clone, Copy, Debug, PartialEq, Eq)]
+pub struct Cut;
 
 // The list reader: a lent list and a place in it.
 #[derive(Drop)]
@@ -23,23 +25,27 @@ pub struct Lister<'a> {
     pub at: usize,
 }
 
-// Where a value stands in a list, and how long it is.
-#[derive(Drop)]
-pub enum Found {
-    At(usize, usize),
-    Nowhere,
+// Where a value stands, and how long it is.
+#[derive(Clone, Copy, Debug, PartialEq, Eq)]
+pub struct Stretch {
+    pub start: usize,
+    pub length: usize,
 }
 
-// The work of the list reader: the record at a place of a slice.
-fn entry_at(s: &[u8], at: usize) -> Entry
+// The work of the list reader: the record at a place of a slice; none at its end.
+fn entry_at(s: &[u8], at: usize) -> Result<Option<Entry>, Cut>
     ensures { result ≡ entry_at s.now at }
 {
     if s.len() <= at {
-        return Entry::End;
+        return Ok(None);
     }
     match heads::head_at(s, at) {
-        Head::Record(k, n) => Entry::Of(k, at + 4, n),
-        Head::Cut => Entry::Bad,
+        Some(h) => Ok(Some(Entry {
+            kind: h.kind,
+            start: at + 4,
+            length: h.length,
+        })),
+        None => Err(Cut),
     }
 }
 
@@ -49,90 +55,77 @@ pub fn new<'a>(src: &'a [u8], at: usize) -> Lister<'a>
     Lister { src, at }
 }
 
-pub fn next<'a>(r: Lister<'a>) -> Entry
+pub fn next<'a>(r: Lister<'a>) -> Result<Option<Entry>, Cut>
     ensures { result ≡ entry_at r.entry.src.now r.entry.at }
 {
     entry_at(r.src, r.at)
 }
 
 // The record at a place, through the list reader: what every walk of a list calls.
-pub fn entry_of(s: &[u8], at: usize) -> Entry
+pub fn entry_of(s: &[u8], at: usize) -> Result<Option<Entry>, Cut>
     ensures { result ≡ entry_at s.now at }
 {
     next(new(s, at))
 }
 
-fn is_between(lo: usize, hi: usize, k: usize) -> bool
-    ensures { result ≡ between lo hi k }
-{
-    if lo <= k {
-        return k <= hi;
-    }
-    false
-}
-
 // Each kind that a list may have has a place among 16; no other has.
-fn slot(run: bool, k: usize) -> usize
-    ensures { result ≡ slot_of run k }
+#[tactic(auto, using(crate::proofs::Slots::slots))]
+fn slot(run: bool, k: usize) -> Option<usize>
+    ensures { result ≡ some_low (slot_of run k) }
 {
     if run {
-        if is_between(0x0300, 0x0307, k) {
-            return k - 0x0300;
-        }
-        if is_between(0x0400, 0x0403, k) {
-            return k - 0x0400 + 8;
-        }
-        return 16;
+        return match k {
+            0x0300..=0x0307 => Some(k - 0x0300),
+            0x0400..=0x0403 => Some(k - 0x0400 + 8),
+            _ => None,
+        };
     }
-    if is_between(0x0200, 0x0203, k) {
-        return k - 0x0200;
+    match k {
+        0x0200..=0x0203 => Some(k - 0x0200),
+        _ => None,
     }
-    16
 }
 
 // Whether a list is good, for running or for preparing.
 pub fn good(s: &[u8], run: bool) -> bool
     ensures { result ≡ is_good (list_of (taken_in run) s.now) }
 {
-    let mut seen = [0u8; 16];
+    let mut seen = [false; 16];
     let mut at: usize = 0;
     loop {
         match entry_of(s, at) {
-            Entry::Of(k, start, n) => {
-                let i = slot(run, k);
-                if 16 <= i {
+            Ok(Some(e)) => {
+                let Some(i) = slot(run, e.kind) else {
+                    return false;
+                };
+                if seen[i] {
                     return false;
                 }
-                if seen[i] == 1 {
+                if 1024 < e.length {
                     return false;
                 }
-                if 1024 < n {
-                    return false;
-                }
-                seen[i] = 1;
-                at = start + n;
+                seen[i] = true;
+                at = e.start + e.length;
             }
-            Entry::End => return true,
-            Entry::Bad => return false,
+            Ok(None) => return true,
+            Err(Cut) => return false,
         }
     }
 }
 
 // Where the value of a kind stands.
-pub fn find(s: &[u8], k: usize) -> Found
+pub fn find(s: &[u8], k: usize) -> Option<Stretch>
     ensures { result ≡ find_in s.now k }
 {
     let mut at: usize = 0;
-    loop {
-        match entry_of(s, at) {
-            Entry::Of(j, start, n) => {
-                if j == k {
-                    return Found::At(start, n);
-                }
-                at = start + n;
-            }
-            Entry::End => return Found::Nowhere,
-            Entry::Bad => return Found::Nowhere,
+    while let Some(e) = entry_of(s, at).ok()? {
+        if e.kind == k {
+            return Some(Stretch {
+                start: e.start,
+                length: e.length,
+            });
         }
+        at = e.start + e.length;
     }
+    None
 }

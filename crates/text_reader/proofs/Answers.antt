@@ -13,15 +13,29 @@ use Rattle.tree.specs.Reading.Read.{got, wrong}
 use Rattle.records.specs.Encode.{encode}
 use Rattle.texts.specs.Reading.{expr_at, end_at, read_text}
 use Rattle.texts.specs.Reading.Part.{bad}
-use Rattle.text_reader.specs.declared.Parsed.{Parsed}
-use Rattle.text_reader.specs.declared.Parsed.TheVariants.{Fine, No}
+use Rattle.std.specs.Prelude.{Result, Ok, Err}
+use Rattle.answers.specs.declared.Fault.{Fault}
+use Rattle.answers.specs.Told.{fault_number}
+use Rattle.answers.proofs.Cases.{one_refusal}
+use Rattle.text_reader.specs.Reader.Parsed.{Fine, No}
 use Rattle.record_out.specs.Put.{put}
-use Rattle.text_reader.specs.Reader.{parsed_of, cleared, out_of, Holds, Whole, Answers}
+use Rattle.text_reader.specs.Reader.{Parsed, parsed, parsed_of, cleared, out_of, Holds, Whole, Answers}
 use Rattle.text_reader.proofs.Steps.{Got}
 
+same_number : (f g : Fault) → fault_number f ≡ fault_number g → f.place ≡ g.place → f ≡ g
+unfolding fault_number
+same_number f g e h = ap (λ r. record { refusal = r; place = f.place }) (one_refusal f.refusal g.refusal e) ∙ ap (λ p. record { refusal = g.refusal; place = p }) h
+
+-- what is told leaves no choice of the answer
+pub same_parsed : (r q : Result ℕ Fault) → parsed r ≡ parsed q → r ≡ q
+same_parsed (Ok n) (Ok m) e = let h : n ≡ m = cc in ap Ok h
+same_parsed (Ok n) (Err g) e = cc
+same_parsed (Err f) (Ok m) e = cc
+same_parsed (Err f) (Err g) e = let k : fault_number f ≡ fault_number g = cc in let h : f.place ≡ g.place = cc in ap Err (same_number f g k h)
+
 -- two results that meet the contract are equal
-pub unique : (i : tree.Read) (r q : Parsed) (before a b : List ℕ) → Answers i r before a → Answers i q before b → (r ≡ q) × (a ≡ b)
-unique i r q before a b x y = (x.says ∙ sym y.says, x.wrote ∙ sym y.wrote)
+pub unique : (i : tree.Read) (r q : Result ℕ Fault) (before a b : List ℕ) → Answers i (parsed r) before a → Answers i (parsed q) before b → (r ≡ q) × (a ≡ b)
+unique i r q before a b x y = (same_parsed r q (x.says ∙ sym y.says), x.wrote ∙ sym y.wrote)
 
 whole_wrong : (i : tree.Read) (k w : ℕ) (b a : List ℕ) → i ≡ wrong k w → Whole i (No k w) b a
 unfolding parsed_of Holds

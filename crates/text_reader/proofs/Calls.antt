@@ -25,10 +25,9 @@ use Rattle.texts.proofs.Spelt.{spells}
 use Rattle.texts.proofs.Back.{expr_back, args_back}
 use Rattle.texts.proofs.Ways.{expr_in, expr_taken, run_stop}
 use Rattle.recipe.proofs.Reach.{encode_reach}
-use Rattle.tokens.specs.Tokens.{head_at}
-use Rattle.tokens.specs.declared.Head.TheVariants.{Opens, Not}
+use Rattle.tokens.specs.Tokens.{Opens, Not, head_at}
 use Rattle.tokens.proofs.Heads.{Opened, after_head, head_call}
-use Rattle.text_reader.specs.declared.Step.TheVariants.{Read}
+use Rattle.text_reader.specs.Reader.Told.{Read}
 use Rattle.record_out.specs.Put.{put}
 use Rattle.text_reader.specs.Reader.{encodes, in_records, leaf_at, Reads}
 use Rattle.record_out.proofs.Put.{front, head_before}

@@ -15,8 +15,7 @@ use Rattle.records.proofs.There.{decode_encode}
 use Rattle.texts.specs.Reading.{read_text}
 use Rattle.texts.proofs.Back.{read_back}
 use Rattle.recipe.proofs.Reach.{encode_reach}
-use Rattle.text_reader.specs.declared.Parsed.{Parsed}
-use Rattle.text_reader.specs.Reader.{out_of, Answers}
+use Rattle.text_reader.specs.Reader.{Parsed, out_of, Answers}
 
 -- a reader's records stand for the text's tree
 pub read_decodes : (s : List ℕ) (t : Tree) (r : Parsed) (before after : List ℕ) → read_text s ≡ got t → Answers (read_text s) r before after

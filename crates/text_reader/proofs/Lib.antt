@@ -1,7 +1,6 @@
 -- Laws of the reader of texts.
 pub mod Steps
 pub mod Literals
-pub mod Zeros
 pub mod Calls
 pub mod Answers
 pub mod Decoded

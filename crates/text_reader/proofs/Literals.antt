@@ -21,7 +21,7 @@ use Rattle.texts.specs.Reading.Due.{stands, missing}
 use Rattle.texts.proofs.Ways.{run_step}
 use Rattle.tokens.specs.Tokens.{digit_at, pair_of}
 use Rattle.tokens.proofs.Laws.{Figure, digit_there, digit_none, pair_whole}
-use Rattle.text_reader.specs.declared.Step.TheVariants.{Read, No}
+use Rattle.text_reader.specs.Reader.Told.{Read, NotRead as No}
 use Rattle.record_out.specs.Put.{put}
 use Rattle.text_reader.specs.Reader.{in_records, Reads}
 use Rattle.record_out.proofs.Put.{front, head_before, put_run}
@@ -61,30 +61,29 @@ pair_not s q h l = go (leb 16 (digit_at s (q + 1))) refl
 abbrev pub byte_of : List ℕ → ℕ → ℕ → ℕ
 byte_of s p i = pair_at s (p + 1 + 2 * i)
 
--- j pairs are read and stored, b is the next or 256
-pub record Pairing (s : List ℕ) (p o : ℕ) (out₀ : List ℕ) (j q b : ℕ) (out : List ℕ) : Type 0 where
+-- j pairs are read and stored
+pub record Pairing (s : List ℕ) (p o : ℕ) (out₀ : List ℕ) (j q : ℕ) (out : List ℕ) : Type 0 where
   pub place : q ≡ p + 1 + 2 * j
   pub within : q ≤ length s
   pub run : run_of is_hex (drop (p + 1) s) ≡ 2 * j + run_of is_hex (drop q s)
-  pub next : b ≡ pair_of s q
   pub stored : Run (byte_of s p) (o + 4) out₀ j out
 
 module _ (s : List ℕ) (p o : ℕ) (out₀ : List ℕ) where
-  pub pairs_none : (b : ℕ) → p < length s → b ≡ pair_of s (p + 1) → Pairing s p o out₀ 0 (p + 1) b out₀
-  pairs_none b h e = record { place = omega arith; within = omega arith; run = omega arith; next = e; stored = run_none (byte_of s p) (o + 4) out₀ }
+  pub pairs_none : (q : ℕ) → q ≡ p + 1 → p < length s → Pairing s p o out₀ 0 q out₀
+  pairs_none q e h = record { place = omega arith; within = omega arith; run = ap (λ (i : ℕ). run_of is_hex (drop i s)) (sym e) ∙ omega arith; stored = run_none (byte_of s p) (o + 4) out₀ }
 
-  pub pair_inside : (j q b : ℕ) (out : List ℕ) → Pairing s p o out₀ j q b out → b < 256 → q + 1 < length s
-  pair_inside j q b out P h =
-      let there = pair_there s q (omega (arith, P.next)) in
+  pub pair_inside : (q b : ℕ) → b ≡ pair_of s q → b < 256 → q + 1 < length s
+  pair_inside q b e h =
+      let there = pair_there s q (omega arith) in
       there.second.inside
 
-  pub pairs_more : (j q b c : ℕ) (out : List ℕ) → Pairing s p o out₀ j q b out → b < 256 → o + 3 * (length s - p) ≤ length out₀ → c ≡ pair_of s (q + 2)
-      → Pairing s p o out₀ (j + 1) (q + 2) c (set out (o + 4 + j) b)
-  pairs_more j q b c out P h fits ec =
-      let there = pair_there s q (omega (arith, P.next)) in
+  pub pairs_more : (j q b to : ℕ) (out : List ℕ) → Pairing s p o out₀ j q out → b ≡ pair_of s q → b < 256 → to ≡ q + 2 → o + 3 * (length s - p) ≤ length out₀
+      → Pairing s p o out₀ (j + 1) to (set out (o + 4 + j) b)
+  pairs_more j q b to out P eb h et fits =
+      let there = pair_there s q (omega arith) in
       let inside = there.second.inside in
       let place = P.place in
-      let on : q + 1 + 1 ≡ q + 2 = omega arith in
+      let on : q + 1 + 1 ≡ to = omega arith in
       record {
         place = omega arith;
         within = omega arith;
@@ -94,22 +93,21 @@ module _ (s : List ℕ) (p o : ℕ) (out₀ : List ℕ) where
             (run_step is_hex s q there.first.inside there.first.hex
             ∙ ap suc (run_step is_hex s (q + 1) inside there.second.hex ∙ ap (λ (i : ℕ). suc (run_of is_hex (drop i s))) on))
             ∙ omega arith;
-        next = ec;
         stored =
             run_more (byte_of s p) (o + 4) out₀ j out b P.stored (omega arith)
-            (P.next ∙ there.value ∙ ap (pair_at s) place);
+            (eb ∙ there.value ∙ ap (pair_at s) place);
       }
 
   -- where the digits end: at an odd count, or at an even one
-  odd_run : (j q b : ℕ) (out : List ℕ) → Pairing s p o out₀ j q b out → 256 ≤ b → digit_at s q < 16 → run_of is_hex (drop (p + 1) s) ≡ 2 * j + 1
-  odd_run j q b out P h l =
+  odd_run : (j q : ℕ) (out : List ℕ) → Pairing s p o out₀ j q out → 256 ≤ pair_of s q → digit_at s q < 16 → run_of is_hex (drop (p + 1) s) ≡ 2 * j + 1
+  odd_run j q out P h l =
       let f = digit_there s q l in
       let e = run_step is_hex s q f.inside f.hex in
-      let z = digit_none s (q + 1) (pair_not s q (omega (arith, P.next)) l) in
+      let z = digit_none s (q + 1) (pair_not s q h l) in
       P.run ∙ ap (λ (i : ℕ). 2 * j + i) (e ∙ ap suc z)
 
-  even_run : (j q b : ℕ) (out : List ℕ) → Pairing s p o out₀ j q b out → 16 ≤ digit_at s q → run_of is_hex (drop (p + 1) s) ≡ 2 * j
-  even_run j q b out P l = P.run ∙ ap (λ (i : ℕ). 2 * j + i) (digit_none s q l) ∙ omega arith
+  even_run : (j q : ℕ) (out : List ℕ) → Pairing s p o out₀ j q out → 16 ≤ digit_at s q → run_of is_hex (drop (p + 1) s) ≡ 2 * j
+  even_run j q out P l = P.run ∙ ap (λ (i : ℕ). 2 * j + i) (digit_none s q l) ∙ omega arith
 
 -- the place of 20 within the text is where the byte is due
 due_place : (s : List ℕ) (lo hi q w : ℕ) → q ≤ length s → due_at s lo hi q ≡ missing w → w ≡ q
@@ -141,21 +139,21 @@ module _ (s : List ℕ) (p n k q : ℕ) (at : q ≡ p + 1 + k) where
   odd_due (missing w) e h l = shut_open w e ∙ ap (bad 20) (due_place s 39 39 q w l e)
 
 -- the ways out of a literal
-module _ (s : List ℕ) (p o n : ℕ) (out₀ : List ℕ) (j q b : ℕ) (out : List ℕ) (P : Pairing s p o out₀ j q b out) where
-  pub literal_odd : 256 ≤ b → digit_at s q < 16 → Reads o (in_records encode (literal_at s p n)) (No 20 (q + 1)) out₀ out
+module _ (s : List ℕ) (p o n : ℕ) (out₀ : List ℕ) (j q : ℕ) (out : List ℕ) (P : Pairing s p o out₀ j q out) where
+  pub literal_odd : 256 ≤ pair_of s q → digit_at s q < 16 → Reads o (in_records encode (literal_at s p n)) (No 20 (q + 1)) out₀ out
   unfolding literal_at
   literal_odd h l =
       let place = P.place in
       let inside = (digit_there s q l).inside in
       reads_bad encode o (literal_at s p n) 20 (q + 1) out₀ out
-      (ap (literal_of s p n) (odd_run s p o out₀ j q b out P h l) ∙ odd_due s p n (2 * j + 1) (q + 1) (omega arith) (due_at s 39 39 (q + 1)) refl (omega arith) (omega arith))
+      (ap (literal_of s p n) (odd_run s p o out₀ j q out P h l) ∙ odd_due s p n (2 * j + 1) (q + 1) (omega arith) (due_at s 39 39 (q + 1)) refl (omega arith) (omega arith))
 
   even : 16 ≤ digit_at s q → literal_at s p n ≡ literal_of s p n (2 * j)
   unfolding literal_at
-  even l = ap (literal_of s p n) (even_run s p o out₀ j q b out P l)
+  even l = ap (literal_of s p n) (even_run s p o out₀ j q out P l)
 
-  pub literal_open : (w : ℕ) → 16 ≤ digit_at s q → due_at s 39 39 q ≡ missing w → Reads o (in_records encode (literal_at s p n)) (No 20 w) out₀ out
-  literal_open w l e = reads_bad encode o (literal_at s p n) 20 w out₀ out (even l ∙ shut_open s p n (2 * j) q P.place w e)
+  pub literal_open : 16 ≤ digit_at s q → (w : ℕ) → due_at s 39 39 q ≡ missing w → literal_at s p n ≡ bad 20 w
+  literal_open l w e = even l ∙ shut_open s p n (2 * j) q P.place w e
 
   pub literal_long : 16 ≤ digit_at s q → due_at s 39 39 q ≡ stands → 1024 < j → Reads o (in_records encode (literal_at s p n)) (No 6 p) out₀ out
   literal_long l e h = reads_bad encode o (literal_at s p n) 6 p out₀ out (even l ∙ shut_long s p n (2 * j) q P.place (omega arith) (omega arith) e)

@@ -1,6 +1,12 @@
 -- What an answer says of what was read, and what was read of the answer.
 use mathlib.Core.List.{List, [], ◌∷◌}
-use mathlib.Core.Path.{◌≡◌, refl, ap, sym, ◌∙◌}
+use mathlib.Core.Path.{◌≡◌, refl, ap, sym, ◌∙◌, subst}
+use Rattle.std.specs.Prelude.{Result, Err}
+use Rattle.answers.specs.declared.Fault.{Fault}
+use Rattle.answers.specs.Told.{table, fault_number}
+use Rattle.tokens.specs.Tokens.{syntax_at, due_is}
+use Rattle.tokens.proofs.Laws.{due_missed}
+use Rattle.text_reader.specs.declared.Step.{Step}
 use Prim.Native.Nat.{ℕ, ◌+◌, ◌-◌, ◌≤◌}
 use native.Mathlib.Nat.{add-zero}
 use native.Mathlib.Omega.{arith}
@@ -12,10 +18,10 @@ use Rattle.texts.specs.Reading as reading
 use Rattle.texts.specs.Reading.{Part, then_part, due_at, if_due, name_at}
 use Rattle.texts.specs.Reading.Part.{part, bad}
 use Rattle.texts.specs.Reading.Due.{stands, missing}
-use Rattle.text_reader.specs.declared.Step.{Step}
-use Rattle.text_reader.specs.declared.Step.TheVariants.{Read, No}
+use Rattle.text_reader.specs.Reader.{Told}
+use Rattle.text_reader.specs.Reader.Told.{Read, NotRead as No}
 use Rattle.record_out.specs.Put.{put}
-use Rattle.text_reader.specs.Reader.{encodes, in_records, leaf_at, step_of, Written, Reads}
+use Rattle.text_reader.specs.Reader.{told, encodes, in_records, leaf_at, step_of, Written, Reads}
 use Rattle.record_out.proofs.Put.{put_after, put_none}
 
 no_read : {k w q m e : ℕ} → No k w ≡ Read q m e → ⊥
@@ -31,7 +37,7 @@ pub reads_part : {A : Type 0} (f : A → List ℕ) (o : ℕ) (i : Part A) (x : A
 unfolding in_records step_of Written
 reads_part f o i x q m e b a ei ee ea = rw ei (record { says = ap (λ (n : ℕ). Read q m n) ee; wrote = ea })
 
-pub reads_as : (o : ℕ) (i j : Part (List ℕ)) (r : Step) (b a : List ℕ) → i ≡ j → Reads o j r b a → Reads o i r b a
+pub reads_as : (o : ℕ) (i j : Part (List ℕ)) (r : Told) (b a : List ℕ) → i ≡ j → Reads o j r b a → Reads o i r b a
 reads_as o i j r b a e h = rw e h
 
 -- what was read by an answer that it was
@@ -41,7 +47,7 @@ pub record Got {A : Type 0} (f : A → List ℕ) (o : ℕ) (i : Part A) (q m e :
   pub end : e ≡ o + length (f tree)
   pub wrote : after ≡ put before o (f tree)
 
-pub got_of : {A : Type 0} (f : A → List ℕ) (o : ℕ) (i : Part A) (r : Step) (q m e : ℕ) (b a : List ℕ) → Reads o (in_records f i) r b a → r ≡ Read q m e → Got f o i q m e b a
+pub got_of : {A : Type 0} (f : A → List ℕ) (o : ℕ) (i : Part A) (r : Told) (q m e : ℕ) (b a : List ℕ) → Reads o (in_records f i) r b a → r ≡ Read q m e → Got f o i q m e b a
 unfolding in_records step_of Written
 got_of f o (part x p n) r q m e b a h er =
     let s = h.says in
@@ -52,7 +58,7 @@ got_of f o (part x p n) r q m e b a h er =
     record { tree = x; is = cc; end = ee; wrote = h.wrote }
 got_of f o (bad k w) r q m e b a h er = absurd (no_read (sym h.says ∙ er))
 
-pub bad_of : {A : Type 0} (f : A → List ℕ) (o : ℕ) (i : Part A) (r : Step) (k w : ℕ) (b a : List ℕ) → Reads o (in_records f i) r b a → r ≡ No k w → i ≡ bad k w
+pub bad_of : {A : Type 0} (f : A → List ℕ) (o : ℕ) (i : Part A) (r : Told) (k w : ℕ) (b a : List ℕ) → Reads o (in_records f i) r b a → r ≡ No k w → i ≡ bad k w
 unfolding in_records step_of Written
 bad_of f o (part x p n) r k w b a h er = absurd (no_read (sym er ∙ h.says))
 bad_of f o (bad j v) r k w b a h er =
@@ -61,11 +67,36 @@ bad_of f o (bad j v) r k w b a h er =
     let ev : v ≡ w = cc in
     cc
 
+-- an answer that passes a fault on
+pub reads_err : {A : Type 0} (f : A → List ℕ) (o : ℕ) (i : Part A) (r : Result Step Fault) (g : Fault) (b a : List ℕ) → r ≡ Err g → i ≡ bad (fault_number g) g.place → Reads o (in_records f i) (told r) b a
+reads_err f o i r g b a er ei = subst (λ r. Reads o (in_records f i) (told r) b a) (sym er) (reads_bad f o i (fault_number g) g.place b a ei)
+
+-- a refusal told at its place
+pub reads_told : (o : ℕ) (i : Part (List ℕ)) (r : Result Step Fault) (g : Fault) (b a : List ℕ) → r ≡ Err g → Reads o i (told (Err g)) b a → Reads o i (told r) b a
+reads_told o i r g b a e h = subst (λ r. Reads o i (told r) b a) (sym e) h
+
+syntax_number : (w : ℕ) → fault_number (syntax_at w) ≡ 20
+unfolding fault_number table
+syntax_number w = refl
+
+pub bad_syntax : {A : Type 0} (i : Part A) (g : Fault) → g ≡ syntax_at g.place → i ≡ bad 20 g.place → i ≡ bad (fault_number g) g.place
+bad_syntax i g e h = h ∙ ap (λ n. bad n g.place) (sym (ap fault_number e ∙ syntax_number g.place))
+
+-- what `due_at` refuses
+pub due_bad : {A : Type 0} (s : List ℕ) (lo hi p : ℕ) (i : Part A) (g : Fault) → due_is (due_at s lo hi p) ≡ Err g → ((w : ℕ) → due_at s lo hi p ≡ missing w → i ≡ bad 20 w) → i ≡ bad (fault_number g) g.place
+due_bad s lo hi p i g e h = let (m, q) = due_missed _ g e in bad_syntax i g q (h g.place m)
+
 -- names
 module _ (k hi : ℕ) (s : List ℕ) (p n : ℕ) where
-  pub leaf_missing : (o w : ℕ) (b a : List ℕ) → due_at s 48 hi (p + 1) ≡ missing w → Reads o (leaf_at k hi s p n) (No 20 w) b a
-  unfolding leaf_at if_due step_of Written
-  leaf_missing o w b a e = rw e (record { says = refl; wrote = tt })
+  leaf_bad : (w : ℕ) → due_at s 48 hi (p + 1) ≡ missing w → leaf_at k hi s p n ≡ bad 20 w
+  unfolding leaf_at if_due
+  leaf_bad w e = rw e
+
+  pub leaf_missing : (o : ℕ) (r : Result Step Fault) (g : Fault) (b a : List ℕ) → r ≡ Err g → due_is (due_at s 48 hi (p + 1)) ≡ Err g → Reads o (leaf_at k hi s p n) (told r) b a
+  unfolding step_of Written
+  leaf_missing o r g b a er e =
+      subst (λ r. Reads o (leaf_at k hi s p n) (told r) b a) (sym er)
+      (rw (due_bad s 48 hi (p + 1) (leaf_at k hi s p n) g e leaf_bad) (record { says = refl; wrote = tt }))
 
   pub leaf_done : (o : ℕ) (b a : List ℕ) → due_at s 48 hi (p + 1) ≡ stands → a ≡ put b o (record_of k ((get_or s (p + 1) 0 - 48) ∷ [])) → Reads o (leaf_at k hi s p n) (Read (p + 2) (n + 1) (o + 5)) b a
   unfolding leaf_at if_due step_of Written record_of
@@ -83,7 +114,7 @@ module _ (k hi : ℕ) (s : List ℕ) (p n : ℕ) where
   leaf_is name h = by_due name (due_at s 48 hi (p + 1)) h
 
 -- one argument and those after it
-pub args_join : (o e : ℕ) (x : Tree) (y : Part (List Tree)) (r : Step) (b mid a : List ℕ) → e ≡ o + length (encode x) → o + length (encode x) ≤ length b → mid ≡ put b o (encode x)
+pub args_join : (o e : ℕ) (x : Tree) (y : Part (List Tree)) (r : Told) (b mid a : List ℕ) → e ≡ o + length (encode x) → o + length (encode x) ≤ length b → mid ≡ put b o (encode x)
     → Reads e (in_records encodes y) r mid a → Reads o (in_records encodes (then_part y (λ l u k. part (x ∷ l) u k))) r b a
 unfolding in_records step_of Written encodes then_part
 args_join o e x (part l u k) r b mid a ee fits em h =

@@ -1,5 +1,5 @@
 -- A text's tree in records, or a number and its place (document 01, sections 5 to 7).
-use Rattle.std.specs.Prelude.{List, [], ◌∷◌, ◌++◌, ◌≡◌, ℕ, ◌+◌, ◌-◌, length, drop, get_or, replicate}
+use Rattle.std.specs.Prelude.{Result, Ok, Err, List, [], ◌∷◌, ◌++◌, ◌≡◌, ℕ, ◌+◌, ◌-◌, length, drop, get_or, replicate}
 use Rattle.tree.specs.Tree.{Tree}
 use Rattle.tree.specs.Reading as tree
 use Rattle.tree.specs.Reading.Read.{got, wrong}
@@ -8,10 +8,31 @@ use Rattle.records.specs.Encode.{encode}
 use Rattle.record_out.specs.Put.{put}
 use Rattle.texts.specs.Reading.{Part, due_at, if_due}
 use Rattle.texts.specs.Reading.Part.{part, bad}
-use Rattle.text_reader.specs.declared.Step as step
+use Rattle.answers.specs.declared.Refusal.{Refusal}
+use Rattle.answers.specs.declared.Fault.{Fault}
+use Rattle.answers.specs.Told.{fault_number}
 use Rattle.text_reader.specs.declared.Step.{Step}
-use Rattle.text_reader.specs.declared.Parsed.{Parsed}
-use Rattle.text_reader.specs.declared.Parsed.TheVariants.{Fine, No}
+
+-- the place after what was read, the nodes so far, the end of its records; or a number and its place
+pub data Told : Type 0 where
+  Read : ℕ → ℕ → ℕ → Told
+  NotRead : ℕ → ℕ → Told
+
+abbrev pub told : Result Step Fault → Told
+told (Ok s) = Read s.place s.nodes s.end
+told (Err f) = NotRead (fault_number f) f.place
+
+abbrev pub fault_at : Refusal → ℕ → Result Step Fault
+fault_at r p = Err (record { refusal = r; place = p })
+
+-- the length of the records, or a number and its place
+pub data Parsed : Type 0 where
+  Fine : ℕ → Parsed
+  No : ℕ → ℕ → Parsed
+
+abbrev pub parsed : Result ℕ Fault → Parsed
+parsed (Ok n) = Fine n
+parsed (Err f) = No (fault_number f) f.place
 
 -- section 7: the number of each answer; 0 is done
 unfoldable pub number_of : Parsed → ℕ
@@ -71,15 +92,15 @@ unfoldable pub leaf_at : ℕ → ℕ → List ℕ → ℕ → ℕ → Part (List
 leaf_at k hi s p n = if_due (due_at s 48 hi (p + 1)) (part (record_of k ((get_or s (p + 1) 0 - 48) ∷ [])) (p + 2) (n + 1))
 
 -- the records at o: the place after, the nodes so far, the end of the records
-unfoldable pub step_of : ℕ → Part (List ℕ) → Step
-step_of o (part v p n) = step.TheVariants.Read p n (o + length v)
-step_of o (bad k p) = step.TheVariants.No k p
+unfoldable pub step_of : ℕ → Part (List ℕ) → Told
+step_of o (part v p n) = Read p n (o + length v)
+step_of o (bad k p) = NotRead k p
 
 unfoldable pub Written : ℕ → Part (List ℕ) → List ℕ → List ℕ → Type 0
 Written o (part v p n) before after = after ≡ put before o v
 Written o (bad k p) before after = Unit {0}
 
 -- nothing is said of the buffer where reading is refused
-pub record Reads (o : ℕ) (i : Part (List ℕ)) (r : Step) (before after : List ℕ) : Type 0 where
+pub record Reads (o : ℕ) (i : Part (List ℕ)) (r : Told) (before after : List ℕ) : Type 0 where
   pub says : r ≡ step_of o i
   pub wrote : Written o i before after

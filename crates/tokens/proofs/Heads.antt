@@ -1,7 +1,7 @@
 -- A call's letters and suite, and the reading that goes on after them.
 use mathlib.Core.Bool.{Bool, true, false}
 use mathlib.Core.List.{List}
-use mathlib.Core.Path.{◌≡◌, refl, ap, ◌∙◌}
+use mathlib.Core.Path.{◌≡◌, refl, ap, sym, ◌∙◌}
 use Prim.Native.Nat.{ℕ, ◌+◌, ◌-◌, ◌≤◌, ◌<◌}
 use native.Mathlib.Omega.{arith}
 use lib.ListN.{length, take, drop, get_or, length-drop}
@@ -18,9 +18,12 @@ use Rattle.texts.specs.Reading.Part.{bad}
 use Rattle.texts.specs.Reading.Due.{stands, missing}
 use Rattle.texts.proofs.Standing.{Stood, due_is_lem, run_within}
 use Rattle.texts.proofs.Table.{Good, all_good, by_letters}
+use Rattle.std.specs.Prelude.{Option, Some, None, Ok, Err}
+use Rattle.answers.specs.declared.Fault.{Fault}
+use Rattle.tokens.specs.declared.Call.{Call}
+use Rattle.tokens.specs.declared.Call.TheVariants.{Plain as InPlain, Cipher as InCipher}
 use Rattle.tokens.specs.declared.Head.{Head}
-use Rattle.tokens.specs.declared.Head.TheVariants.{Opens, Not}
-use Rattle.tokens.specs.Tokens.{row_is, call_is, head_due, suite_head, head_of, head_at}
+use Rattle.tokens.specs.Tokens.{syntax_at, Opening, Opens, Not, row_is, call_is, head_due, suite_head, head_of, head_at}
 use Rattle.tokens.proofs.Laws.{Wide, all_wide}
 
 -- what an opened call says
@@ -31,10 +34,16 @@ pub record Opened (s : List ℕ) (p k c q : ℕ) : Type 0 where
   pub most : c ≤ 4
   pub kind : k < 65536
 
-not_opens : {w k c q : ℕ} → Not w ≡ Opens k c q → ⊥
-not_opens e = let z : ◌≡◌ {A = ℕ} 0 1 = cc in omega arith
+of_ok : {g h : Head} → ◌≡◌ {A = Opening} (Ok g) (Ok h) → g ≡ h
+of_ok e = cc
 
-head_due_lem : (d : reading.Due) (h : Head) {k c q : ℕ} → head_due d h ≡ Opens k c q → (d ≡ stands) × (h ≡ Opens k c q)
+same_opens : (k c q i j l : ℕ) → Opens k c q ≡ Opens i j l → (k ≡ i) × (c ≡ j) × (q ≡ l)
+same_opens k c q i j l e = let h = of_ok e in (ap (λ (h : Head). h.kind) h, ap (λ (h : Head). h.arguments) h, ap (λ (h : Head). h.place) h)
+
+not_opens : {w k c q : ℕ} → Not w ≡ Opens k c q → ⊥
+not_opens e = cc
+
+head_due_lem : (d : reading.Due) (h : Opening) {k c q : ℕ} → head_due d h ≡ Opens k c q → (d ≡ stands) × (h ≡ Opens k c q)
 unfolding head_due
 head_due_lem stands h e = (refl, e)
 head_due_lem (missing w) h e = absurd (not_opens e)
@@ -44,9 +53,7 @@ by_suit : (s : List ℕ) (b : Bool) (kind count p e k c q : ℕ) → kind ≤ 43
     → Opened s p k c q
 unfolding head_of row_is suite_head
 by_suit s false kind count p e k c q hk h1 h4 far within h =
-    let ek : kind ≡ k = cc in
-    let ec : count ≡ c = cc in
-    let eq : e ≡ q = cc in
+    let (ek, ec, eq) = same_opens kind count e k c q h in
     record { far = omega arith; within = omega arith; least = omega arith; most = omega arith; kind = omega arith }
 by_suit s true kind count p e k c q hk h1 h4 far within h =
     let (d1, r1) = head_due_lem (due_at s 46 46 e) (head_due (due_at s 49 53 (e + 1)) (Opens (kind + (get_or s (e + 1) 0 - 48)) count (e + 2))) h in
@@ -57,9 +64,7 @@ by_suit s true kind count p e k c q hk h1 h4 far within h =
     suited st f =
         let inside = st.inside in
         let high = st.high in
-        let ek : kind + (get_or s (e + 1) 0 - 48) ≡ k = cc in
-        let ec : count ≡ c = cc in
-        let eq : e + 2 ≡ q = cc in
+        let (ek, ec, eq) = same_opens (kind + (get_or s (e + 1) 0 - 48)) count (e + 2) k c q f in
         record { far = omega arith; within = omega arith; least = omega arith; most = omega arith; kind = omega arith }
 
 pub head_opened : (s : List ℕ) (p k c q : ℕ) → p ≤ length s → head_at s p ≡ Opens k c q → Opened s p k c q
@@ -81,12 +86,12 @@ head_opened s p k c q hp h = go (call_in calls (take n (drop p s))) refl h
         (omega (arith, ap length letters)) (omega (arith, length-drop p s)) f
 
 -- reading goes on after the head
-unfoldable pub after_head : (ℕ → ℕ → Part Tree) → List ℕ → Head → ℕ → Part Tree
-after_head expr s (Opens k c q) n = list_at expr s k c q n
-after_head expr s (Not w) n = bad 20 w
+unfoldable pub after_head : (ℕ → ℕ → Part Tree) → List ℕ → Opening → ℕ → Part Tree
+after_head expr s (Ok h) n = list_at expr s h.kind h.arguments h.place n
+after_head expr s (Err f) n = bad 20 f.place
 
 module _ (expr : ℕ → ℕ → Part Tree) (s : List ℕ) where
-  after_due : (d : reading.Due) (h : Head) (n : ℕ) → if_due d (after_head expr s h n) ≡ after_head expr s (head_due d h) n
+  after_due : (d : reading.Due) (h : Opening) (n : ℕ) → if_due d (after_head expr s h n) ≡ after_head expr s (head_due d h) n
   unfolding if_due head_due after_head
   after_due stands h n = refl
   after_due (missing w) h n = refl
@@ -107,3 +112,25 @@ module _ (expr : ℕ → ℕ → Part Tree) (s : List ℕ) where
   pub head_call : (p n : ℕ) → call_on expr s (run_of is_letter (drop p s)) p n ≡ after_head expr s (head_at s p) n
   unfolding call_on head_at
   head_call p n = after_name (call_in calls (take (run_of is_letter (drop p s)) (drop p s))) p (p + run_of is_letter (drop p s)) n
+
+-- a head that is refused is refused with 20
+not_syntax : (w : ℕ) (f : Fault) → Not w ≡ Err f → f ≡ syntax_at f.place
+not_syntax w f e = let g : syntax_at w ≡ f = of_err e in sym g ∙ ap (λ (f : Fault). syntax_at f.place) g
+  where
+    of_err : {f g : Fault} → ◌≡◌ {A = Opening} (Err f) (Err g) → f ≡ g
+    of_err e = cc
+
+due_syntax : (d : reading.Due) (h : Opening) (f : Fault) → (h ≡ Err f → f ≡ syntax_at f.place) → head_due d h ≡ Err f → f ≡ syntax_at f.place
+unfolding head_due
+due_syntax stands h f g e = g e
+due_syntax (missing w) h f g e = not_syntax w f e
+
+call_syntax : (s : List ℕ) (c : Option Call) (p q : ℕ) (f : Fault) → head_of s c p q ≡ Err f → f ≡ syntax_at f.place
+unfolding head_of suite_head
+call_syntax s (Some (InPlain k c)) p q f e = cc
+call_syntax s (Some (InCipher k c)) p q f e = due_syntax _ _ f (λ e. due_syntax _ _ f (λ e. cc) e) e
+call_syntax s None p q f e = not_syntax p f e
+
+pub head_syntax : (s : List ℕ) (p : ℕ) (f : Fault) → head_at s p ≡ Err f → f ≡ syntax_at f.place
+unfolding head_at
+head_syntax s p f e = call_syntax s _ p _ f e

@@ -6,11 +6,12 @@ use Prim.Native.Nat.{ℕ, zero, suc, ◌+◌, ◌-◌, ◌*◌, ◌≤◌, ◌<�
 use native.Mathlib.Nat.{add-zero}
 use native.Mathlib.Numerals.{add-one}
 use native.Mathlib.Omega.{arith}
-use lib.Dec.{leb}
+use lib.Dec.{leb, ltb}
 use lib.ListN.{length, take, drop, get_or, length-drop}
 use lib.Seq.{take-take, take-suc, get_or-drop, length-take-le}
-use borrow.Author.Tests.{le-leb, lt-leb, le-ltb, lt-ltb, leb-true, leb-false}
+use borrow.Author.Tests.{le-leb, lt-leb, le-ltb, lt-ltb, leb-true, leb-false, ltb-true, ltb-false}
 use Rattle.common.specs.Choice.{pick}
+use Rattle.common.proofs.Choices.{pick_true, pick_false, bool_cases}
 use Rattle.tree.specs.Calls as table
 use Rattle.tree.specs.Calls.{calls, plain, cipher}
 use Rattle.texts.specs.Spelling.{Found}
@@ -25,11 +26,10 @@ use Rattle.texts.proofs.Ways.{due_end, due_other, due_here, run_step, run_stop, 
 use Rattle.texts.proofs.LeavesBack.{digit_is}
 use Rattle.texts.proofs.Table.{All, by_letters}
 use Rattle.texts.proofs.Packed.{call_packed, call_long, packed_more, packed_lt}
-use Rattle.tokens.specs.declared.Due.TheVariants.{Stands, Missing}
+use Rattle.answers.specs.declared.Fault.{Fault}
 use Rattle.tokens.specs.declared.Call.{Call}
-use Rattle.tokens.specs.declared.Call.TheVariants.{Cipher, Unknown}
-use Rattle.tokens.specs.declared.Head.TheVariants.{Opens, Not}
-use Rattle.tokens.specs.Tokens.{due_is, digit_of, digit_at, pair_of, letter_of, letter_at, more_of, Lettered, row_is, call_is, head_due, suite_head, head_of, head_at}
+use Rattle.std.specs.Prelude.{Option, Some, None, Ok, Err}
+use Rattle.tokens.specs.Tokens.{Judged, syntax_at, Stands, Missing, due_is, some_below, some_if, Cipher, Opens, digit_of, digit_at, pair_of, letter_of, letter_at, more_of, Lettered, row_is, call_is, head_due, suite_head, head_of, head_at}
 
 -- a byte outside a range
 between_low : (lo hi b : ℕ) → b < lo → between lo hi b ≡ false
@@ -42,60 +42,94 @@ between_high lo hi b l h = rw (le-leb lo b l, lt-leb b hi h)
 
 -- a byte that is due
 module _ (s : List ℕ) (lo hi p : ℕ) where
-  pub due_past : length s ≤ p → Missing (length s) ≡ due_is (due_at s lo hi p)
+  pub due_past : length s ≤ p → due_is (due_at s lo hi p) ≡ Missing (length s)
   unfolding due_is
-  due_past h = sym (ap due_is (due_end s lo hi p h))
+  due_past h = ap due_is (due_end s lo hi p h)
 
-  pub due_low : p < length s → get_or s p 0 < lo → Missing p ≡ due_is (due_at s lo hi p)
+  pub due_low : p < length s → get_or s p 0 < lo → due_is (due_at s lo hi p) ≡ Missing p
   unfolding due_is
-  due_low h l = sym (ap due_is (due_other s lo hi p h (between_low lo hi (get_or s p 0) l)))
+  due_low h l = ap due_is (due_other s lo hi p h (between_low lo hi (get_or s p 0) l))
 
-  pub due_high : p < length s → lo ≤ get_or s p 0 → hi < get_or s p 0 → Missing p ≡ due_is (due_at s lo hi p)
+  pub due_high : p < length s → lo ≤ get_or s p 0 → hi < get_or s p 0 → due_is (due_at s lo hi p) ≡ Missing p
   unfolding due_is
-  due_high h l m = sym (ap due_is (due_other s lo hi p h (between_high lo hi (get_or s p 0) l m)))
+  due_high h l m = ap due_is (due_other s lo hi p h (between_high lo hi (get_or s p 0) l m))
 
-  pub due_in : p < length s → lo ≤ get_or s p 0 → get_or s p 0 ≤ hi → Stands ≡ due_is (due_at s lo hi p)
+  pub due_in : p < length s → lo ≤ get_or s p 0 → get_or s p 0 ≤ hi → due_is (due_at s lo hi p) ≡ Stands
   unfolding due_is
-  due_in h l m = sym (ap due_is (due_here s lo hi p h (between_true lo hi (get_or s p 0) l m)))
+  due_in h l m = ap due_is (due_here s lo hi p h (between_true lo hi (get_or s p 0) l m))
 
-stands_not : {w : ℕ} → Stands ≡ Missing w → ⊥
-stands_not e = let z : ◌≡◌ {A = ℕ} 0 1 = cc in omega arith
+pub ruleset dues = (due_past, due_low, due_high, due_in)
 
 -- what a piece says of the definition
-pub due_stood : (d : reading.Due) → due_is d ≡ Stands → d ≡ stands
+pub due_stood : (d : reading.Due) (u : Unit {0}) → due_is d ≡ Ok u → d ≡ stands
 unfolding due_is
-due_stood stands e = refl
-due_stood (missing w) e = absurd (stands_not (sym e))
+due_stood stands u e = refl
+due_stood (missing w) u e = cc
 
-pub due_missed : (d : reading.Due) (w : ℕ) → due_is d ≡ Missing w → d ≡ missing w
+pub due_missed : (d : reading.Due) (f : Fault) → due_is d ≡ Err f → (d ≡ missing f.place) × (f ≡ syntax_at f.place)
 unfolding due_is
-due_missed stands w e = absurd (stands_not e)
-due_missed (missing v) w e = let f : v ≡ w = cc in ap missing f
+due_missed stands f e = cc
+due_missed (missing v) f e = let g : syntax_at v ≡ f = of_err e in (ap missing (ap (λ (f : Fault). f.place) g), sym g ∙ ap (λ (f : Fault). syntax_at f.place) g)
+  where
+    of_err : {f g : Fault} → ◌≡◌ {A = Judged} (Err f) (Err g) → f ≡ g
+    of_err e = cc
+
+-- a number below a bound, or none
+some_low : (top n : ℕ) → n < top → some_below top n ≡ Some n
+unfolding some_below
+some_low top n h = pick_true _ _ _ (lt-ltb n top h)
+
+none_high : (top n : ℕ) → top ≤ n → some_below top n ≡ None
+unfolding some_below
+none_high top n h = pick_false _ _ _ (le-ltb n top h)
+
+pub below_some : (top n a : ℕ) → some_below top n ≡ Some a → (a ≡ n) × (a < top)
+unfolding some_below
+below_some top n a = bool_cases (λ b. pick b (Some n) None ≡ Some a → (a ≡ n) × (a < top)) (ltb n top)
+    (λ e f. let l = ltb-true n top e in let q : n ≡ a = of_some (sym (pick_true _ _ _ e) ∙ f) in (sym q, omega arith))
+    (λ e f. let q : None ≡ Some a = sym (pick_false _ _ _ e) ∙ f in cc)
+  where
+    of_some : {i j : ℕ} → Some i ≡ Some j → i ≡ j
+    of_some e = cc
+
+pub below_none : (top n : ℕ) → some_below top n ≡ None → top ≤ n
+unfolding some_below
+below_none top n = bool_cases (λ b. pick b (Some n) None ≡ None → top ≤ n) (ltb n top)
+    (λ e f. let q : Some n ≡ None = sym (pick_true _ _ _ e) ∙ f in cc)
+    (λ e f. ltb-false n top e)
 
 -- digits
-pub digit_low : (b : ℕ) → b < 48 → 16 ≡ digit_of b
+pub digit_low : (b : ℕ) → b < 48 → some_below 16 (digit_of b) ≡ None
 unfolding digit_of is_hex pick
-digit_low b h = rw (between_low 48 57 b h, between_low 65 70 b (omega arith))
+digit_low b h = none_high 16 _ (rw (between_low 48 57 b h, between_low 65 70 b (omega arith)) (omega arith))
 
-pub digit_figure : (b : ℕ) → 48 ≤ b → b ≤ 57 → b - 48 ≡ digit_of b
+figure_value : (b : ℕ) → 48 ≤ b → b ≤ 57 → digit_of b ≡ b - 48
 unfolding digit_of is_hex hex_value pick
-digit_figure b l h = rw (between_true 48 57 b l h, le-leb b 57 h)
+figure_value b l h = rw (between_true 48 57 b l h, le-leb b 57 h)
 
-pub digit_middle : (b : ℕ) → 57 < b → b < 65 → 16 ≡ digit_of b
+pub digit_figure : (b : ℕ) → 48 ≤ b → b ≤ 57 → some_below 16 (digit_of b) ≡ Some (b - 48)
+digit_figure b l h = ap (some_below 16) (figure_value b l h) ∙ some_low 16 (b - 48) (omega arith)
+
+pub digit_middle : (b : ℕ) → 57 < b → b < 65 → some_below 16 (digit_of b) ≡ None
 unfolding digit_of is_hex pick
-digit_middle b l h = rw (between_high 48 57 b (omega arith) l, between_low 65 70 b h)
+digit_middle b l h = none_high 16 _ (rw (between_high 48 57 b (omega arith) l, between_low 65 70 b h) (omega arith))
 
-pub digit_letter : (b : ℕ) → 65 ≤ b → b ≤ 70 → b - 55 ≡ digit_of b
+letter_value : (b : ℕ) → 65 ≤ b → b ≤ 70 → digit_of b ≡ b - 55
 unfolding digit_of is_hex hex_value pick
-digit_letter b l h = rw (between_high 48 57 b (omega arith) (omega arith), between_true 65 70 b l h, lt-leb b 57 (omega arith))
+letter_value b l h = rw (between_high 48 57 b (omega arith) (omega arith), between_true 65 70 b l h, lt-leb b 57 (omega arith))
 
-pub digit_high : (b : ℕ) → 70 < b → 16 ≡ digit_of b
+pub digit_letter : (b : ℕ) → 65 ≤ b → b ≤ 70 → some_below 16 (digit_of b) ≡ Some (b - 65 + 10)
+digit_letter b l h = let v : digit_of b ≡ b - 65 + 10 = letter_value b l h ∙ omega arith in ap (some_below 16) v ∙ some_low 16 (b - 65 + 10) (omega arith)
+
+pub digit_high : (b : ℕ) → 70 < b → some_below 16 (digit_of b) ≡ None
 unfolding digit_of is_hex pick
-digit_high b h = rw (between_high 48 57 b (omega arith) (omega arith), between_high 65 70 b (omega arith) h)
+digit_high b h = none_high 16 _ (rw (between_high 48 57 b (omega arith) (omega arith), between_high 65 70 b (omega arith) h) (omega arith))
 
-pub digit_past : (s : List ℕ) (p : ℕ) → length s ≤ p → 16 ≡ digit_at s p
-unfolding digit_at pick
-digit_past s p h = rw (le-leb (length s) p h)
+pub ruleset digits = (digit_low, digit_figure, digit_middle, digit_letter, digit_high)
+
+pub digit_past : (s : List ℕ) (p : ℕ) → length s ≤ p → some_below 16 (digit_at s p) ≡ None
+unfolding digit_at
+digit_past s p h = none_high 16 _ (rw (pick_true _ _ _ (le-leb (length s) p h)) (omega arith))
 
 pub digit_in_lem : (s : List ℕ) (p : ℕ) → p < length s → digit_of (get_or s p 0) ≡ digit_at s p
 unfolding digit_at pick
@@ -127,34 +161,64 @@ digit_none s p h = go (leb (length s) p) (is_hex (get_or s p 0)) refl refl h
 
 -- pairs of digits
 module _ (s : List ℕ) (p : ℕ) where
-  pub pair_none : 16 ≤ digit_at s p → 256 ≡ pair_of s p
-  unfolding pair_of pick
-  pair_none h = rw (le-leb 16 (digit_at s p) h)
+  pub pair_none : 16 ≤ digit_at s p → some_below 256 (pair_of s p) ≡ None
+  unfolding pair_of
+  pair_none h = none_high 256 _ (rw (pick_true _ _ _ (le-leb 16 (digit_at s p) h)) (omega arith))
 
-  pub pair_half : digit_at s p < 16 → 16 ≤ digit_at s (p + 1) → 256 ≡ pair_of s p
-  unfolding pair_of pick
-  pair_half h l = rw (lt-leb 16 (digit_at s p) h, le-leb 16 (digit_at s (p + 1)) l)
+  pub pair_half : digit_at s p < 16 → 16 ≤ digit_at s (p + 1) → some_below 256 (pair_of s p) ≡ None
+  unfolding pair_of
+  pair_half h l = none_high 256 _ (rw (pick_false _ _ _ (lt-leb 16 (digit_at s p) h), pick_true _ _ _ (le-leb 16 (digit_at s (p + 1)) l)) (omega arith))
 
   pub pair_whole : digit_at s p < 16 → digit_at s (p + 1) < 16 → 16 * digit_at s p + digit_at s (p + 1) ≡ pair_of s p
   unfolding pair_of pick
   pair_whole h l = rw (lt-leb 16 (digit_at s p) h, lt-leb 16 (digit_at s (p + 1)) l)
 
+  pub pair_some : (a b : ℕ) → a ≡ digit_at s p → b ≡ digit_at s (p + 1) → a < 16 → b < 16 → some_below 256 (pair_of s p) ≡ Some (16 * a + b)
+  pair_some a b ea eb la lb =
+      let w = pair_whole (omega arith) (omega arith) in
+      let v : pair_of s p ≡ 16 * a + b = omega arith in
+      ap (some_below 256) v ∙ some_low 256 _ (omega arith)
+
 -- letters
-pub letter_past : (s : List ℕ) (p : ℕ) → length s ≤ p → 0 ≡ letter_at s p
-unfolding letter_at pick
-letter_past s p h = rw (le-leb (length s) p h)
+some_pos : (n : ℕ) → 0 < n → some_if n ≡ Some n
+unfolding some_if
+some_pos zero h = absurd (omega arith)
+some_pos (suc n) h = refl
 
-pub letter_low : (s : List ℕ) (p : ℕ) → p < length s → get_or s p 0 < 97 → 0 ≡ letter_at s p
-unfolding letter_at letter_of is_letter pick
-letter_low s p h l = rw (lt-leb (length s) p h, between_low 97 122 (get_or s p 0) l)
+pub if_some : (n b : ℕ) → some_if n ≡ Some b → (b ≡ n) × (0 < b)
+unfolding some_if
+if_some zero b e = cc
+if_some (suc n) b e = let q : suc n ≡ b = of_some e in (sym q, omega arith)
+  where
+    of_some : {i j : ℕ} → Some i ≡ Some j → i ≡ j
+    of_some e = cc
 
-pub letter_high : (s : List ℕ) (p : ℕ) → p < length s → 97 ≤ get_or s p 0 → 122 < get_or s p 0 → 0 ≡ letter_at s p
-unfolding letter_at letter_of is_letter pick
-letter_high s p h l m = rw (lt-leb (length s) p h, between_high 97 122 (get_or s p 0) l m)
+pub if_none : (n : ℕ) → some_if n ≡ None → n ≡ 0
+unfolding some_if
+if_none zero e = refl
+if_none (suc n) e = cc
 
-pub letter_in : (s : List ℕ) (p : ℕ) → p < length s → 97 ≤ get_or s p 0 → get_or s p 0 ≤ 122 → get_or s p 0 ≡ letter_at s p
-unfolding letter_at letter_of is_letter pick
-letter_in s p h l m = rw (lt-leb (length s) p h, between_true 97 122 (get_or s p 0) l m)
+none_zero : (n : ℕ) → n ≡ 0 → some_if n ≡ None
+unfolding some_if
+none_zero n e = ap some_if e
+
+pub letter_past : (s : List ℕ) (p : ℕ) → length s ≤ p → some_if (letter_at s p) ≡ None
+unfolding letter_at
+letter_past s p h = none_zero _ (pick_true _ _ _ (le-leb (length s) p h))
+
+pub letter_low : (s : List ℕ) (p : ℕ) → p < length s → get_or s p 0 < 97 → some_if (letter_at s p) ≡ None
+unfolding letter_at letter_of is_letter
+letter_low s p h l = none_zero _ (pick_false _ _ _ (lt-leb (length s) p h) ∙ pick_false _ _ _ (between_low 97 122 (get_or s p 0) l))
+
+pub letter_high : (s : List ℕ) (p : ℕ) → p < length s → 97 ≤ get_or s p 0 → 122 < get_or s p 0 → some_if (letter_at s p) ≡ None
+unfolding letter_at letter_of is_letter
+letter_high s p h l m = none_zero _ (pick_false _ _ _ (lt-leb (length s) p h) ∙ pick_false _ _ _ (between_high 97 122 (get_or s p 0) l m))
+
+pub letter_in : (s : List ℕ) (p : ℕ) → p < length s → 97 ≤ get_or s p 0 → get_or s p 0 ≤ 122 → some_if (letter_at s p) ≡ Some (get_or s p 0)
+unfolding letter_at letter_of is_letter
+letter_in s p h l m = ap some_if (pick_false _ _ _ (lt-leb (length s) p h) ∙ pick_true _ _ _ (between_true 97 122 (get_or s p 0) l m)) ∙ some_pos _ (omega arith)
+
+pub ruleset letters = (letter_past, letter_low, letter_high, letter_in)
 
 -- a letter stands at p
 record Letter (s : List ℕ) (p : ℕ) : Type 0 where
@@ -207,34 +271,32 @@ four_bytes (suc (suc (suc zero))) h = omega arith
 four_bytes (suc (suc (suc (suc zero)))) h = omega arith
 four_bytes (suc (suc (suc (suc (suc k))))) h = absurd (omega arith)
 
--- k letters are read, b is the next or 0
-pub record Lettering (s : List ℕ) (p w k b : ℕ) : Type 0 where
+-- k letters are read
+pub record Lettering (s : List ℕ) (p w k : ℕ) : Type 0 where
   pub within : k ≤ length s - p
   pub run : run_of is_letter (drop p s) ≡ k + run_of is_letter (drop (p + k) s)
   pub word : k ≤ 5 → w ≡ packed (take k (drop p s)) 0
-  pub next : b ≡ letter_at s (p + k)
 
-pub letters_none : (s : List ℕ) (p b : ℕ) → b ≡ letter_at s p → Lettering s p 0 0 b
+pub letters_none : (s : List ℕ) (p : ℕ) → Lettering s p 0 0
 unfolding packed
-letters_none s p b e =
+letters_none s p =
     record {
       within = omega arith;
       run = ap (λ (i : ℕ). run_of is_letter (drop i s)) (sym (add-zero p)) ∙ omega arith;
       word = λ h. refl;
-      next = e ∙ ap (letter_at s) (sym (add-zero p));
     }
 
 -- the letters so far pass, and are as many
-so_far : (s : List ℕ) (p w k b : ℕ) → Lettering s p w k b → Pass is_letter (take k (drop p s)) × (length (take k (drop p s)) ≡ k)
-so_far s p w k b L =
+so_far : (s : List ℕ) (p w k : ℕ) → Lettering s p w k → Pass is_letter (take k (drop p s)) × (length (take k (drop p s)) ≡ k)
+so_far s p w k L =
     let r = L.run in
     let l = L.within in
     let n = length-drop p s in
     (run_part is_letter (drop p s) k (omega arith), length-take-le k (drop p s) (omega arith))
 
-pub letters_more : (s : List ℕ) (p w k b v c : ℕ) → Lettering s p w k b → 0 < b → v ≡ more_of w b → c ≡ letter_at s (p + (k + 1)) → Lettering s p v (k + 1) c
-letters_more s p w k b v c L h ev ec =
-    let there = letter-there s (p + k) (omega (arith, L.next)) in
+pub letters_more : (s : List ℕ) (p w k b v : ℕ) → Lettering s p w k → b ≡ letter_at s (p + k) → 0 < b → v ≡ more_of w b → Lettering s p v (k + 1)
+letters_more s p w k b v L eb h ev =
+    let there = letter-there s (p + k) (omega arith) in
     let in-text = there.inside in
     let on : p + k + 1 ≡ p + (k + 1) = omega arith in
     record {
@@ -246,13 +308,12 @@ letters_more s p w k b v c L h ev ec =
       word =
           λ five.
           let four : k ≤ 4 = omega arith in
-          let (pass, long) = so_far s p w k b L in
+          let (pass, long) = so_far s p w k L in
           one_more (take k (drop p s)) (take (k + 1) (drop p s)) w b v (L.word (omega arith))
           (below (take k (drop p s)) k pass long four)
           (ap (λ (i : ℕ). take i (drop p s)) (add-one k) ∙ take-suc (drop p s) k 0 (omega (arith, length-drop p s))
-          ∙ ap (λ (x : ℕ). take k (drop p s) ++ (x ∷ [])) (get_or-drop p s k 0 ∙ sym there.value ∙ sym L.next))
+          ∙ ap (λ (x : ℕ). take k (drop p s) ++ (x ∷ [])) (get_or-drop p s k 0 ∙ sym there.value ∙ sym eb))
           ev;
-      next = ec;
     }
   where
     below : (u : List ℕ) (k : ℕ) → Pass is_letter u → length u ≡ k → k ≤ 4 → packed u 0 < 4294967296
@@ -267,22 +328,22 @@ unfolding call_by calls plain cipher packed pick
 no_number = refl
 
 -- the run is read to its end
-ended : (s : List ℕ) (p w k b : ℕ) → Lettering s p w k b → b ≤ 0 → k ≡ run_of is_letter (drop p s)
-ended s p w k b L h =
+ended : (s : List ℕ) (p w k : ℕ) → Lettering s p w k → letter_at s (p + k) ≡ 0 → k ≡ run_of is_letter (drop p s)
+ended s p w k L h =
     let e = L.run in
-    let n = letter-none s (p + k) (omega (arith, L.next)) in
+    let n = letter-none s (p + k) h in
     omega arith
 
-pub letters_long : (s : List ℕ) (p w k b : ℕ) → Lettering s p w k b → b ≤ 0 → 5 < k → Lettered s p k 0
-letters_long s p w k b L h l =
-    let (pass, long) = so_far s p w k b L in
-    record { longest = ended s p w k b L h; names = no_number ∙ sym (call_long (take k (drop p s)) (omega arith)) }
+pub letters_long : (s : List ℕ) (p w k : ℕ) → Lettering s p w k → letter_at s (p + k) ≡ 0 → 5 < k → Lettered s p k 0
+letters_long s p w k L h l =
+    let (pass, long) = so_far s p w k L in
+    record { longest = ended s p w k L h; names = no_number ∙ sym (call_long (take k (drop p s)) (omega arith)) }
 
-pub letters_short : (s : List ℕ) (p w k b : ℕ) → Lettering s p w k b → b ≤ 0 → k ≤ 5 → Lettered s p k w
-letters_short s p w k b L h l =
-    let (pass, long) = so_far s p w k b L in
+pub letters_short : (s : List ℕ) (p w k : ℕ) → Lettering s p w k → letter_at s (p + k) ≡ 0 → k ≤ 5 → Lettered s p k w
+letters_short s p w k L h l =
+    let (pass, long) = so_far s p w k L in
     record {
-      longest = ended s p w k b L h;
+      longest = ended s p w k L h;
       names = ap (call_by calls) (L.word l) ∙ sym (call_packed (take k (drop p s)) pass);
     }
 
@@ -292,7 +353,7 @@ letters_within s p count word L =
     omega (arith, run_within is_letter (drop p s), length-drop p s)
 
 -- the row by its number is the row by its letters
-pub head_of_lem : (s : List ℕ) (p count word : ℕ) (c : Call) → Lettered s p count word → c ≡ call_is (call_by calls word) → head_of s c p (p + count) ≡ head_at s p
+pub head_of_lem : (s : List ℕ) (p count word : ℕ) (c : Option Call) → Lettered s p count word → c ≡ call_is (call_by calls word) → head_of s c p (p + count) ≡ head_at s p
 unfolding head_at
 head_of_lem s p count word c L e = rw (e, L.names, L.longest)
 
@@ -348,28 +409,35 @@ row_kind_lem w (known r) b k c e h =
     same_kind true true k c i j e = cc
 row_kind_lem w unknown b k c e h = absurd (no_call b k c h)
   where
-    no_call : (b : Bool) (k c : ℕ) → row_is b k c ≡ Unknown → ⊥
-    no_call false k c e = let z : ◌≡◌ {A = ℕ} 0 1 = cc in omega arith
-    no_call true k c e = let z : ◌≡◌ {A = ℕ} 0 1 = cc in omega arith
+    no_call : (b : Bool) (k c : ℕ) → row_is b k c ≡ None → ⊥
+    no_call false k c e = cc
+    no_call true k c e = cc
 
 pub cipher_small : (s : List ℕ) (p count word k c : ℕ) → Lettered s p count word → Cipher k c ≡ call_is (call_by calls word) → k ≤ 432
 unfolding row_is
 cipher_small s p count word k c L e = row_kind_lem (take count (drop p s)) (call_in calls (take count (drop p s))) true k c refl (e ∙ ap call_is L.names)
 
 -- a letter that was met stands in the text
-pub letter_inside : (s : List ℕ) (p w k b : ℕ) → Lettering s p w k b → 0 < b → p + k < length s
-letter_inside s p w k b L h = (letter-there s (p + k) (omega (arith, L.next))).inside
+pub letter_inside : (s : List ℕ) (q b : ℕ) → b ≡ letter_at s q → 0 < b → q < length s
+letter_inside s q b e h = (letter-there s q (omega arith)).inside
 
 -- a `.` and a suite digit
 module _ (s : List ℕ) (k c q : ℕ) where
-  pub suite_no_dot : (w : ℕ) → due_at s 46 46 q ≡ missing w → Not w ≡ suite_head s k c q
+  pub suite_no_dot : (f : Fault) → due_is (due_at s 46 46 q) ≡ Err f → Err f ≡ suite_head s k c q
   unfolding suite_head head_due
-  suite_no_dot w e = rw e
+  suite_no_dot f e = let (d, g) = due_missed _ f e in ap Err g ∙ sym (ap (λ d. head_due d (head_due (due_at s 49 53 (q + 1)) (Opens (k + (get_or s (q + 1) 0 - 48)) c (q + 2)))) d)
 
-  pub suite_no_digit : (w : ℕ) → due_at s 46 46 q ≡ stands → due_at s 49 53 (q + 1) ≡ missing w → Not w ≡ suite_head s k c q
+  pub suite_no_digit : (u : Unit {0}) (f : Fault) → due_is (due_at s 46 46 q) ≡ Ok u → due_is (due_at s 49 53 (q + 1)) ≡ Err f → Err f ≡ suite_head s k c q
   unfolding suite_head head_due
-  suite_no_digit w e f = rw (e, f)
+  suite_no_digit u f e h =
+      let (d, g) = due_missed _ f h in
+      ap Err g
+      ∙ sym (ap (λ d. head_due d (head_due (due_at s 49 53 (q + 1)) (Opens (k + (get_or s (q + 1) 0 - 48)) c (q + 2)))) (due_stood _ u e) ∙ ap (λ d. head_due d (Opens (k + (get_or s (q + 1) 0 - 48)) c (q + 2))) d)
 
-  pub suite_done : (x : ℕ) → due_at s 46 46 q ≡ stands → due_at s 49 53 (q + 1) ≡ stands → x ≡ get_or s (q + 1) 0 → Opens (k + (x - 48)) c (q + 2) ≡ suite_head s k c q
+  pub suite_done : (u v : Unit {0}) → due_is (due_at s 46 46 q) ≡ Ok u → due_is (due_at s 49 53 (q + 1)) ≡ Ok v → Opens (k + (get_or s (q + 1) 0 - 48)) c (q + 2) ≡ suite_head s k c q
   unfolding suite_head head_due
-  suite_done x e f g = rw (e, f, g)
+  suite_done u v e f = let a = due_stood _ u e in let b = due_stood _ v f in rw (a, b)
+
+-- a call's row, by its parts
+pub row_here : (r : Option Call) (f g : Call) → r ≡ Some f → f ≡ g → r ≡ Some g
+row_here r f g e h = e ∙ ap Some h

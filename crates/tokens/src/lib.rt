@@ -5,32 +5,27 @@ ghost use Rattle.std.specs.Prelude.{◌≡◌, ◌≤◌, ◌<◌};
 ghost use Rattle.texts.specs.Reading.{due_at};
 ghost use Rattle.texts.specs.Packed.{call_by};
 ghost use Rattle.tree.specs.Calls.{calls};
-ghost use Rattle.tokens.specs.Tokens.{due_is, digit_of, digit_at, pair_of, letter_at, more_of, Lettered, call_is, suite_head, head_at};
+ghost use Rattle.tokens.specs.Tokens.{syntax_at, due_is, some_below, some_if, digit_of, digit_at, pair_of, letter_at, more_of, Lettered, call_is, suite_head, head_at};
 
-// A byte that is due, or the place of 20.
-#[derive(Drop)]
-pub enum Due {
-    Stands,
-    Missing(usize),
-}
+use answers::{Fault, Refusal};
 
 // A call's row: kind and count of arguments.
-#[derive(Drop)]
+#[derive(Clone, Copy, Debug, PartialEq, Eq)]
 pub enum Call {
     Plain(usize, usize),
     Cipher(usize, usize),
-    Unknown,
 }
 
-// What stands before a call's arguments: kind, count of arguments, the place of the `(`; or the place of 20.
-#[derive(Drop)]
-pub enum Head {
-    Opens(usize, usize, usize),
-    Not(usize),
+// What stands before a call's arguments: kind, count of arguments, the place of the `(`.
+#[derive(Clone, Copy, Debug, PartialEq, Eq)]
+pub struct Head {
+    pub kind: usize,
+    pub arguments: usize,
+    pub place: usize,
 }
 
 // A run of letters: how many, and the first five as a number; 0 where there are more.
-#[derive(Drop)]
+#[derive(Clone, Copy, Debug, PartialEq, Eq)]
 pub struct Letters {
     pub count: usize,
     pub word: u64,
@@ -39,85 +34,78 @@ pub struct Letters {
 pub fn wide(x: u8) -> usize
     ensures { (result ≡ x) × (result < 256) }
 {
-    x as usize
+    usize::from(x)
+}
+
+// 20, and its place.
+fn syntax(place: usize) -> Fault
+    ensures { result ≡ syntax_at place }
+{
+    Fault {
+        refusal: Refusal::Syntax,
+        place,
+    }
 }
 
 // A byte from lo to hi is due at p.
-pub fn due_at(s: &[u8], lo: u8, hi: u8, p: usize) -> Due
+#[tactic(auto, using(crate::proofs::Laws::dues))]
+pub fn due_at(s: &[u8], lo: u8, hi: u8, p: usize) -> Result<(), Fault>
     ensures { result ≡ due_is (due_at s.now lo hi p) }
 {
     if s.len() <= p {
-        return Due::Missing(s.len());
+        return Err(syntax(s.len()));
     }
     let b = s[p];
-    if b < lo {
-        return Due::Missing(p);
+    if b < lo || hi < b {
+        return Err(syntax(p));
     }
-    if hi < b {
-        return Due::Missing(p);
-    }
-    Due::Stands
+    Ok(())
 }
 
-// A digit's value, 16 for any other byte.
-fn digit_of(b: u8) -> u8
-    ensures { result ≡ digit_of b }
+// A digit's value; none for any other byte.
+#[tactic(auto, using(crate::proofs::Laws::digits))]
+fn digit_of(b: u8) -> Option<u8>
+    ensures { result ≡ some_below 16 (digit_of b) }
 {
-    if b < 48 {
-        return 16;
+    match b {
+        b'0'..=b'9' => Some(b - b'0'),
+        b'A'..=b'F' => Some(b - b'A' + 10),
+        _ => None,
     }
-    if b <= 57 {
-        return b - 48;
-    }
-    if b < 65 {
-        return 16;
-    }
-    if b <= 70 {
-        return b - 55;
-    }
-    16
 }
 
-// The value of the digit at p, 16 where none stands.
-pub fn digit_at(s: &[u8], p: usize) -> u8
-    ensures { result ≡ digit_at s.now p }
+// The value of the digit at p; none where no digit stands.
+pub fn digit_at(s: &[u8], p: usize) -> Option<u8>
+    ensures { result ≡ some_below 16 (digit_at s.now p) }
 {
     if s.len() <= p {
-        return 16;
+        return None;
     }
     digit_of(s[p])
 }
 
-// The byte of the pair at p, 256 where no pair stands.
-pub fn pair_at(s: &[u8], p: usize) -> usize
-    ensures { result ≡ pair_of s.now p }
+// The byte of the pair at p; none where no pair stands.
+pub fn pair_at(s: &[u8], p: usize) -> Option<u8>
+    ensures { result ≡ some_below 256 (pair_of s.now p) }
 {
-    let a = digit_at(s, p);
-    if 16 <= a {
-        return 256;
-    }
-    let b = digit_at(s, p + 1);
-    if 16 <= b {
-        return 256;
-    }
-    16 * wide(a) + wide(b)
+    let a = digit_at(s, p)?;
+    let b = digit_at(s, p + 1)?;
+    Some(16 * a + b)
 }
 
-// The letter at p, 0 where none stands.
-fn letter_at(s: &[u8], p: usize) -> u8
-    ensures { result ≡ letter_at s.now p }
+// The letter at p; none where no letter stands.
+#[tactic(auto, using(crate::proofs::Laws::letters))]
+fn letter_at(s: &[u8], p: usize) -> Option<u8>
+    ensures { result ≡ some_if (letter_at s.now p) }
 {
     if s.len() <= p {
-        return 0;
+        return None;
     }
     let b = s[p];
-    if b < 97 {
-        return 0;
+    if b < b'a' || b'z' < b {
+        return None;
     }
-    if 122 < b {
-        return 0;
-    }
-    b
+    Some(b)
 }
 
 // One more letter, while six fit.
@@ -125,7 +113,7 @@ fn more(w: u64, b: u8) -> u64
     ensures { result ≡ more_of w b }
 {
     if w < 1099511627776 {
-        return w * 256 + b as u64;
+        return w * 256 + u64::from(b);
     }
     w
 }
@@ -135,12 +123,10 @@ fn letters_at(s: &[u8], p: usize) -> Letters
     ensures { Lettered s.now p result.count result.word }
 {
     let mut w: u64 = 0;
-    let mut k: usize = 0;
-    let mut b = letter_at(s, p);
-    while 0 < b {
+    let mut k: usize = 0; // as many as there are: no range to go over
+    while let Some(b) = letter_at(s, p + k) {
         w = more(w, b);
         k += 1;
-        b = letter_at(s, p + k);
     }
     if 5 < k {
         return Letters { count: k, word: 0 };
@@ -149,54 +135,58 @@ fn letters_at(s: &[u8], p: usize) -> Letters
 }
 
 // The row that a number of letters names.
-fn call_by(w: u64) -> Call
+fn call_by(w: u64) -> Option<Call>
     ensures { result ≡ call_is (call_by calls w) }
 {
     match w {
-        6513012 => Call::Plain(0x0010, 2), // cat
-        7892850 => Call::Plain(0x0011, 2), // xor
-        25969 => Call::Plain(0x0012, 2), // eq
-        1751474532 => Call::Plain(0x0013, 2), // head
-        2003330414 => Call::Plain(0x0014, 3), // when
-        6450283 => Call::Cipher(0x0100, 2), // blk
-        504363117675 => Call::Cipher(0x0110, 2), // unblk
-        6517874 => Call::Cipher(0x0120, 3), // ctr
-        7300706 => Call::Cipher(0x0130, 3), // ofb
-        6514274 => Call::Cipher(0x0140, 3), // cfb
-        504363181666 => Call::Cipher(0x0150, 3), // uncfb
-        6513251 => Call::Cipher(0x0160, 3), // cbc
-        504363180643 => Call::Cipher(0x0170, 3), // uncbc
-        6513264 => Call::Cipher(0x0180, 3), // cbp
-        504363180656 => Call::Cipher(0x0190, 3), // uncbp
-        7168355 => Call::Cipher(0x01A0, 2), // mac
-        6514795 => Call::Cipher(0x01B0, 3), // chk
-        _ => Call::Unknown,
+        6513012 => Some(Call::Plain(0x0010, 2)), // cat
+        7892850 => Some(Call::Plain(0x0011, 2)), // xor
+        25969 => Some(Call::Plain(0x0012, 2)), // eq
+        1751474532 => Some(Call::Plain(0x0013, 2)), // head
+        2003330414 => Some(Call::Plain(0x0014, 3)), // when
+        6450283 => Some(Call::Cipher(0x0100, 2)), // blk
+        504363117675 => Some(Call::Cipher(0x0110, 2)), // unblk
+        6517874 => Some(Call::Cipher(0x0120, 3)), // ctr
+        7300706 => Some(Call::Cipher(0x0130, 3)), // ofb
+        6514274 => Some(Call::Cipher(0x0140, 3)), // cfb
+        504363181666 => Some(Call::Cipher(0x0150, 3)), // uncfb
+        6513251 => Some(Call::Cipher(0x0160, 3)), // cbc
+        504363180643 => Some(Call::Cipher(0x0170, 3)), // uncbc
+        6513264 => Some(Call::Cipher(0x0180, 3)), // cbp
+        504363180656 => Some(Call::Cipher(0x0190, 3)), // uncbp
+        7168355 => Some(Call::Cipher(0x01A0, 2)), // mac
+        6514795 => Some(Call::Cipher(0x01B0, 3)), // chk
+        _ => None,
     }
 }
 
 // After a cipher call's letters a `.` and a suite digit 1 to 5 are due.
-fn suite_at(s: &[u8], k: usize, c: usize, q: usize) -> Head
+fn suite_at(s: &[u8], k: usize, c: usize, q: usize) -> Result<Head, Fault>
     requires { k ≤ 512 }
     ensures { result ≡ suite_head s.now k c q }
 {
-    match due_at(s, 46, 46, q) {
-        Due::Missing(w) => Head::Not(w),
-        Due::Stands => match due_at(s, 49, 53, q + 1) {
-            Due::Missing(w) => Head::Not(w),
-            Due::Stands => Head::Opens(k + (wide(s[q + 1]) - 48), c, q + 2),
-        },
-    }
+    due_at(s, b'.', b'.', q)?;
+    due_at(s, b'1', b'5', q + 1)?;
+    Ok(Head {
+        kind: k + usize::from(s[q + 1] - b'0'),
+        arguments: c,
+        place: q + 2,
+    })
 }
 
 // A call's letters and suite, from p on: the letters are judged where they end.
-pub fn head_at(s: &[u8], p: usize) -> Head
+pub fn head_at(s: &[u8], p: usize) -> Result<Head, Fault>
     ensures { result ≡ head_at s.now p }
 {
     let l = letters_at(s, p);
     let q = p + l.count;
     match call_by(l.word) {
-        Call::Plain(k, c) => Head::Opens(k, c, q),
-        Call::Cipher(k, c) => suite_at(s, k, c, q),
-        Call::Unknown => Head::Not(p),
+        Some(Call::Plain(kind, arguments)) => Ok(Head {
+            kind,
+            arguments,
+            place: q,
+        }),
+        Some(Call::Cipher(kind, arguments)) => suite_at(s, kind, arguments, q),
+        None => Err(syntax(p)),
     }
 }

@@ -13,8 +13,8 @@ use Rattle.texts.specs.Unbound as texts
 use Rattle.texts.specs.Unbound.{later, unbound_in}
 use Rattle.texts.specs.Unbound.Place.{at, nowhere}
 use Rattle.texts.proofs.Ways.{scan_other, scan_bound, scan_unbound, scan_end}
-use Rattle.unbound.specs.declared.Place.TheVariants.{At, Nowhere}
-use Rattle.unbound.specs.Scan.{place_is, has_of, open_at}
+use Rattle.std.specs.Prelude.{Some, None}
+use Rattle.unbound.specs.Scan.{place_is, has_of, has_in, open_at}
 
 -- which of the four
 module _ (b0 b1 b2 b3 : Bool) (n : ℕ) where
@@ -38,16 +38,28 @@ module _ (b0 b1 b2 b3 : Bool) (n : ℕ) where
   unfolding has_of pick
   has_none a b c d = rw (ne_eqb n 0 a, ne_eqb n 1 b, ne_eqb n 2 c, ne_eqb n 3 d)
 
+pub low_has : (l : List Bool) (n : ℕ) → n < 4 → has_in l n ≡ get_or l n false
+low_has l zero h = sym (has_0 _ _ _ _ _ refl)
+low_has l (suc zero) h = sym (has_1 _ _ _ _ _ refl)
+low_has l (suc (suc zero)) h = sym (has_2 _ _ _ _ _ refl)
+low_has l (suc (suc (suc zero))) h = sym (has_3 _ _ _ _ _ refl)
+low_has l (suc (suc (suc (suc n)))) h = absurd (omega arith)
+
+pub high_has : (l : List Bool) (n : ℕ) → 4 ≤ n → has_in l n ≡ false
+high_has l n h = sym (has_none _ _ _ _ n (λ e. omega arith) (λ e. omega arith) (λ e. omega arith) (λ e. omega arith))
+
+pub ruleset four = (low_has, high_has)
+
 module _ (has : ℕ → Bool) (s : List ℕ) (p : ℕ) where
-  pub open_other : (get_or s p 0 ≡ 35 → ⊥) → false ≡ open_at has s p
+  pub open_other : (get_or s p 0 ≡ 35 → ⊥) → open_at has s p ≡ false
   unfolding open_at pick
   open_other e = rw (ne_eqb (get_or s p 0) 35 e)
 
-  pub open_has : get_or s p 0 ≡ 35 → has (get_or s (p + 1) 0 - 48) ≡ true → false ≡ open_at has s p
+  pub open_has : get_or s p 0 ≡ 35 → has (get_or s (p + 1) 0 - 48) ≡ true → open_at has s p ≡ false
   unfolding open_at pick
   open_has e h = rw (eq-eqb (get_or s p 0) 35 e, h)
 
-  pub open_lacks : get_or s p 0 ≡ 35 → has (get_or s (p + 1) 0 - 48) ≡ false → true ≡ open_at has s p
+  pub open_lacks : get_or s p 0 ≡ 35 → has (get_or s (p + 1) 0 - 48) ≡ false → open_at has s p ≡ true
   unfolding open_at pick
   open_lacks e h = rw (eq-eqb (get_or s p 0) 35 e, h)
 
@@ -73,6 +85,8 @@ module _ (has : ℕ → Bool) (s : List ℕ) (p : ℕ) where
       go true true ea eb f = scan_bound has s p h (eqb-true (get_or s p 0) 35 ea) eb
       go true false ea eb f = absurd (true_false f)
       go false b ea eb f = scan_other has s p h (eqb-false (get_or s p 0) 35 ea)
+
+pub ruleset opens = (open_other, open_has, open_lacks)
 
 later_later : (a b : ℕ) (x : texts.Place) → later a (later b x) ≡ later (a + b) x
 unfolding later
@@ -100,11 +114,11 @@ module _ (has : ℕ → Bool) (s : List ℕ) where
         left = P.left ∙ ap (later p) (scan_on has s p h o) ∙ later_later p 1 (unbound_in has (drop (p + 1) s));
       }
 
-  pub found_here : (p : ℕ) → Passed has s p → p < length s → open_at has s p ≡ true → At p ≡ place_is (unbound_in has s)
+  pub found_here : (p : ℕ) → Passed has s p → p < length s → open_at has s p ≡ true → Some p ≡ place_is (unbound_in has s)
   unfolding place_is later
-  found_here p P h o = sym (ap place_is (P.left ∙ ap (later p) (scan_here has s p h o)) ∙ ap At (add-zero p))
+  found_here p P h o = sym (ap place_is (P.left ∙ ap (later p) (scan_here has s p h o)) ∙ ap Some (add-zero p))
 
-  pub found_none : (p : ℕ) → Passed has s p → length s ≤ p → Nowhere ≡ place_is (unbound_in has s)
+  pub found_none : (p : ℕ) → Passed has s p → length s ≤ p → None ≡ place_is (unbound_in has s)
   unfolding place_is later
   found_none p P h = sym (ap place_is (P.left ∙ ap (later p) (scan_end has s p h)))
 

@@ -3,26 +3,14 @@
 
 ghost use Rattle.std.specs.Prelude.{◌≡◌, ◌-◌, ◌<◌, length, get_or};
 ghost use Rattle.texts.specs.Unbound.{unbound_in};
-ghost use Rattle.unbound.specs.Scan.{place_is, has_of, open_at};
+ghost use Rattle.unbound.specs.Scan.{place_is, has_in, open_at};
 
-// The place of the first, or none.
-#[derive(Drop)]
-pub enum Place {
-    At(usize),
-    Nowhere,
-}
-
-// Whether `#d` has a value; b0 to b3 say it of `#0` to `#3`.
-fn has(d: u8, b0: bool, b1: bool, b2: bool, b3: bool) -> bool
-    ensures { result ≡ has_of b0 b1 b2 b3 d }
+// Whether `#d` has a value; `bound` says it of `#0` to `#3`.
+#[tactic(auto, using(crate::proofs::Laws::four))]
+fn has(d: u8, bound: [bool; 4]) -> bool
+    ensures { result ≡ has_in bound d }
 {
-    match d {
-        0 => b0,
-        1 => b1,
-        2 => b2,
-        3 => b3,
-        _ => false,
-    }
+    d < 4 && bound[usize::from(d)]
 }
 
 // The digit at p; 0 for a byte below the digits, or for none.
@@ -32,37 +20,26 @@ fn digit_at(s: &[u8], p: usize) -> u8
     if s.len() <= p {
         return 0;
     }
-    let b = s[p];
-    if b < 48 {
-        return 0;
-    }
-    b - 48
+    s[p].saturating_sub(b'0')
 }
 
 // Whether a `#` without a value stands at p.
-fn open_at(s: &[u8], p: usize, b0: bool, b1: bool, b2: bool, b3: bool) -> bool
+#[tactic(auto, using(crate::proofs::Laws::opens))]
+fn open_at(s: &[u8], p: usize, bound: [bool; 4]) -> bool
     requires { p < length s.now }
-    ensures { result ≡ open_at (has_of b0 b1 b2 b3) s.now p }
+    ensures { result ≡ open_at (has_in bound) s.now p }
 {
-    if s[p] != b'#' {
-        return false;
-    }
-    if has(digit_at(s, p + 1), b0, b1, b2, b3) {
-        return false;
-    }
-    true
+    s[p] == b'#' && !has(digit_at(s, p + 1), bound)
 }
 
-// In text order, dropped sides included; b0 to b3 say whether `#0` to `#3` have a value.
-pub fn first_unbound(text: &[u8], b0: bool, b1: bool, b2: bool, b3: bool) -> Place
-    ensures { result ≡ place_is (unbound_in (has_of b0 b1 b2 b3) text.now) }
+// The place of the first, in text order, dropped sides included; `bound` says whether `#0` to `#3` have a value.
+pub fn first_unbound(text: &[u8], bound: [bool; 4]) -> Option<usize>
+    ensures { result ≡ place_is (unbound_in (has_in bound) text.now) }
 {
-    let mut p: usize = 0;
-    while p < text.len() {
-        if open_at(text, p, b0, b1, b2, b3) {
-            return Place::At(p);
+    for p in 0..text.len() {
+        if open_at(text, p, bound) {
+            return Some(p);
         }
-        p += 1;
     }
-    Place::Nowhere
+    None
 }

@@ -1,77 +1,93 @@
 use borrow.Author.Rules.{rules}
+use Rattle.std.proofs.Common.{◌≡◌, ℕ, ap, sym, ◌∙◌, arith}
 use Rattle.image_check.proofs.Ways.{as_constant, as_row, as_run, as_bound, not_bound, call_fits, call_fails, call_unfilled, several_within, several_none, several_fails, several_more, part_within, no_levels, record_cut, record_room, record_opened}
 use Rattle.image_check.proofs.Calls.{no_call}
-use mathlib.Core.Path.{sym, ◌∙◌}
-use native.Mathlib.Omega.{arith}
 use Rattle.records.specs.Decode.{decode}
-use Rattle.kinds.proofs.Quick.{arguments_few}
+use Rattle.kinds.proofs.Quick.{arguments_few, if_none, if_some}
+use Rattle.kinds.proofs.Needs.{higher}
+use Rattle.kinds.specs.Tables.{need_number}
+use Rattle.tree.specs.Bounds.{arguments_of}
+use Rattle.image_check.specs.Check.{counted}
 use Rattle.image_check.proofs.+by_kind_record_in_several.Goals as goal
+use Rattle.image_check.proofs.+by_kind_record_in_several.Goals.{by_kind-In_ok-n-in_default}
 
-pub by_kind-returns-then-k-eq1 : goal.by_kind-returns-then-k-eq1
-by_kind-returns-then-k-eq1 t c = as_constant (decode c.args.inner c.args.levels) c.args.inner c.args.k c.args.p.now c.constant_in.result c.if-k-eq1.true c.constant_in.ensures
+pub by_kind-returns-in-1 : goal.by_kind-returns-in-1
+by_kind-returns-in-1 t c = as_constant (decode c.args.inner c.args.levels) c.args.inner c.args.k c.args.p.now _ c.in-1.is c.constant_in.ensures
 
-pub by_kind-returns-then-k-eq2 : goal.by_kind-returns-then-k-eq2
-by_kind-returns-then-k-eq2 t c = as_row (decode c.args.inner c.args.levels) c.args.inner c.args.k c.args.p.now c.digit_in.result c.if-k-eq2.true c.digit_in.ensures
+pub by_kind-returns-in-2 : goal.by_kind-returns-in-2
+by_kind-returns-in-2 t c = as_row (decode c.args.inner c.args.levels) c.args.inner c.args.k c.args.p.now _ c.in-2.is c.digit_in.ensures
 
-pub by_kind-returns-then-k-eq3 : goal.by_kind-returns-then-k-eq3
-by_kind-returns-then-k-eq3 t c = as_run (decode c.args.inner c.args.levels) c.args.inner c.args.k c.args.p.now c.digit_in-then-k-eq3.result c.if-k-eq3.true c.digit_in-then-k-eq3.ensures
+pub by_kind-returns-in-3 : goal.by_kind-returns-in-3
+by_kind-returns-in-3 t c = as_run (decode c.args.inner c.args.levels) c.args.inner c.args.k c.args.p.now _ c.in-3.is c.digit_in-in-3.ensures
 
 pub by_kind-returns-then-inner : goal.by_kind-returns-then-inner
-by_kind-returns-then-inner t c = as_bound (decode c.args.inner c.args.levels) c.args.inner c.args.k c.args.p.now c.digit_in-then-inner.result c.if-k-eq4.true c.if-inner.true c.digit_in-then-inner.ensures
+by_kind-returns-then-inner t c = as_bound (decode c.args.inner c.args.levels) c.args.inner c.args.k c.args.p.now _ c.in-4.is c.if-inner.true c.digit_in-then-inner.ensures
 
-pub by_kind-returns-then-k-eq4 : goal.by_kind-returns-then-k-eq4
-by_kind-returns-then-k-eq4 t c = not_bound (decode c.args.inner c.args.levels) c.args.inner c.args.k c.args.p.now c.if-k-eq4.true c.if-inner.false
+pub by_kind-returns-else-inner : goal.by_kind-returns-else-inner
+by_kind-returns-else-inner t c = not_bound (decode c.args.inner c.args.levels) c.args.inner c.args.k c.args.p.now c.in-4.is c.if-inner.false
 
-pub by_kind-returns-then-n-eq0 : goal.by_kind-returns-then-n-eq0
-by_kind-returns-then-n-eq0 t c = no_call (decode c.args.inner c.args.levels) c.args.inner c.args.p.now c.args.k c.if-k-eq1.false c.if-k-eq2.false c.if-k-eq3.false c.if-k-eq4.false (sym c.arguments-n.ensures ∙ c.if-n-eq0.true)
+pub by_kind-returns-in_err-n-in_default : goal.by_kind-returns-in_err-n-in_default
+by_kind-returns-in_err-n-in_default t c =
+    ap counted c.from_residual.ensures
+    ∙ no_call (decode c.args.inner c.args.levels) c.args.inner c.args.p.now c.args.k (λ e. omega arith) (λ e. omega arith) (λ e. omega arith) (λ e. omega arith) (if_none _ (sym c.arguments.ensures ∙ c.in_err-n-in_default.was))
 
-pub by_kind-several-a-requires : goal.by_kind-several-a-requires
-by_kind-several-a-requires t c = let few = arguments_few c.args.k in search rules
+-- how many arguments the call takes, and that it takes some
+taken : {t : ℕ} (c : by_kind-In_ok-n-in_default t) → (c.in_ok-n-in_default.n ≡ arguments_of c.args.k) × (c.in_ok-n-in_default.n ≡ 0 → ⊥)
+taken c = if_some _ _ (sym c.arguments.ensures ∙ c.in_ok-n-in_default.was)
 
-pub by_kind-overflow_add-result-then-u-p : goal.by_kind-overflow_add-result-then-u-p
-by_kind-overflow_add-result-then-u-p t c = let w = several_within c.args.inner c.args.levels c.args.p.now c.arguments-n.result c.several-a.result c.in-Fits.u c.in-Fits.m c.in-Fits.x c.several-a.ensures c.in-Fits.is in omega (arith, w.0, w.1, c.well_formed)
+pub by_kind-several-requires : goal.by_kind-several-requires
+by_kind-several-requires t c = let few = arguments_few c.args.k in let (e, z) = taken (goal.at.by_kind-several-requires t c).In_ok-n-in_default in search rules
 
-pub by_kind-returns-then-u-p : goal.by_kind-returns-then-u-p
-by_kind-returns-then-u-p t c = call_fits (decode c.args.inner c.args.levels) c.args.inner c.args.k c.arguments-n.result c.args.p.now c.several-a.result c.arguments-n.ensures c.if-n-eq0.false c.several-a.ensures c.in-Fits.u c.in-Fits.m c.in-Fits.x c.in-Fits.is c.if-u-p.true c.tables_for.result c.greater.result c.tables_for.ensures c.greater.ensures
+pub by_kind-returns-in_err-a-in_default : goal.by_kind-returns-in_err-a-in_default
+by_kind-returns-in_err-a-in_default t c =
+    let (e, z) = taken (goal.at.by_kind-returns-in_err-a-in_default t c).In_ok-n-in_default in
+    ap counted c.from_residual-in_err-a-in_default.ensures ∙ call_fails (decode c.args.inner c.args.levels) c.args.inner c.args.k _ c.args.p.now _ e z c.several.ensures (ap counted c.in_err-a-in_default.was)
 
-pub by_kind-returns-in-Fails : goal.by_kind-returns-in-Fails
-by_kind-returns-in-Fails t c = call_fails (decode c.args.inner c.args.levels) c.args.inner c.args.k c.arguments-n.result c.args.p.now c.several-a.result c.arguments-n.ensures c.if-n-eq0.false c.several-a.ensures c.in-Fails.is
+pub by_kind-overflow_add-result-then-a-p : goal.by_kind-overflow_add-result-then-a-p
+by_kind-overflow_add-result-then-a-p t c = let w = several_within c.args.inner c.args.levels c.args.p.now _ _ _ _ _ c.several.ensures (ap counted c.in_ok-a-in_default.was) in omega (arith, w.0, w.1, c.well_formed)
 
-pub by_kind-returns-else-u-p : goal.by_kind-returns-else-u-p
-by_kind-returns-else-u-p t c = call_unfilled (decode c.args.inner c.args.levels) c.args.inner c.args.k c.arguments-n.result c.args.p.now c.several-a.result c.arguments-n.ensures c.if-n-eq0.false c.several-a.ensures c.in-Fits.u c.in-Fits.m c.in-Fits.x c.in-Fits.is c.if-u-p.false
+pub by_kind-returns-then-a-p : goal.by_kind-returns-then-a-p
+by_kind-returns-then-a-p t c =
+    let (e, z) = taken (goal.at.by_kind-returns-then-a-p t c).In_ok-n-in_default in
+    call_fits (decode c.args.inner c.args.levels) c.args.inner c.args.k _ c.args.p.now _ e z c.several.ensures _ _ _ (ap counted c.in_ok-a-in_default.was) c.if-a-p.true _ _ c.tables_for.ensures (ap need_number c.max-need.ensures ∙ higher _ _)
+
+pub by_kind-returns-else-a-p : goal.by_kind-returns-else-a-p
+by_kind-returns-else-a-p t c =
+    let (e, z) = taken (goal.at.by_kind-returns-else-a-p t c).In_ok-n-in_default in
+    call_unfilled (decode c.args.inner c.args.levels) c.args.inner c.args.k _ c.args.p.now _ e z c.several.ensures _ _ _ (ap counted c.in_ok-a-in_default.was) c.if-a-p.false
 
 pub record_in-returns-then-levels-eq0 : goal.record_in-returns-then-levels-eq0
 record_in-returns-then-levels-eq0 t c = no_levels c.args.inner c.args.levels c.args.s.now c.if-levels-eq0.true
 
+pub record_in-returns-in_err-h : goal.record_in-returns-in_err-h
+record_in-returns-in_err-h t c = ap counted c.from_residual.ensures ∙ record_cut c.args.inner c.args.levels c.args.s.now c.if-levels-eq0.false _ c.head_at.ensures c.in_err-h.was
+
 pub record_in-overflow_add-e : goal.record_in-overflow_add-e
-record_in-overflow_add-e t c = omega (arith, record_room c.args.inner c.args.levels c.args.s.now c.if-levels-eq0.false c.head_at.result c.head_at.ensures c.in-Record.k c.in-Record.n c.in-Record.is, c.well_formed)
+record_in-overflow_add-e t c = omega (arith, record_room c.args.inner c.args.levels c.args.s.now c.if-levels-eq0.false _ c.head_at.ensures _ _ c.in_ok-h.was, c.well_formed)
 
 pub record_in-slice_bounds-p-end : goal.record_in-slice_bounds-p-end
-record_in-slice_bounds-p-end t c = omega (arith, record_room c.args.inner c.args.levels c.args.s.now c.if-levels-eq0.false c.head_at.result c.head_at.ensures c.in-Record.k c.in-Record.n c.in-Record.is)
+record_in-slice_bounds-p-end t c = omega (arith, record_room c.args.inner c.args.levels c.args.s.now c.if-levels-eq0.false _ c.head_at.ensures _ _ c.in_ok-h.was)
 
 pub record_in-by_kind-requires : goal.record_in-by_kind-requires
-record_in-by_kind-requires t c = let w = record_room c.args.inner c.args.levels c.args.s.now c.if-levels-eq0.false c.head_at.result c.head_at.ensures c.in-Record.k c.in-Record.n c.in-Record.is in search rules
+record_in-by_kind-requires t c = let w = record_room c.args.inner c.args.levels c.args.s.now c.if-levels-eq0.false _ c.head_at.ensures c.in_ok-h.h.kind c.in_ok-h.h.length c.in_ok-h.was in search rules
 
-pub record_in-returns-in-Cut : goal.record_in-returns-in-Cut
-record_in-returns-in-Cut t c = record_cut c.args.inner c.args.levels c.args.s.now c.if-levels-eq0.false c.head_at.result c.head_at.ensures c.in-Cut.is
-
-pub record_in-returns-in-Record : goal.record_in-returns-in-Record
-record_in-returns-in-Record t c = record_opened c.args.inner c.args.levels c.args.s.now c.if-levels-eq0.false c.head_at.result c.head_at.ensures c.in-Record.k c.in-Record.n c.by_kind.result c.in-Record.is c.by_kind.ensures
+pub record_in-returns : goal.record_in-returns
+record_in-returns t c = record_opened c.args.inner c.args.levels c.args.s.now c.if-levels-eq0.false _ c.head_at.ensures _ _ _ c.in_ok-h.was c.by_kind.ensures
 
 pub several-returns-then-left-eq0 : goal.several-returns-then-left-eq0
-several-returns-then-left-eq0 t c = several_none c.args.inner c.args.levels c.args.p.now c.args.left c.args.u c.args.m c.args.x c.if-left-eq0.true
+several-returns-then-left-eq0 t c = several_none c.args.inner c.args.levels c.args.p.now c.args.left _ _ _ c.if-left-eq0.true
 
-pub several-overflow_add-u : goal.several-overflow_add-u
-several-overflow_add-u t c = let w = part_within c.args.inner c.args.levels c.args.p.now c.args.u c.record_in.result c.in-Fits.v c.in-Fits.l c.in-Fits.y c.requires.1 c.record_in.ensures c.in-Fits.is in omega (arith, w.1, c.well_formed)
+pub several-returns-in_err-a : goal.several-returns-in_err-a
+several-returns-in_err-a t c = ap counted c.from_residual.ensures ∙ several_fails c.args.inner c.args.levels c.args.p.now c.args.left _ _ _ c.if-left-eq0.false _ c.record_in.ensures (ap counted c.in_err-a.was)
 
-pub several-overflow_add-m : goal.several-overflow_add-m
-several-overflow_add-m t c = let w = part_within c.args.inner c.args.levels c.args.p.now c.args.u c.record_in.result c.in-Fits.v c.in-Fits.l c.in-Fits.y c.requires.1 c.record_in.ensures c.in-Fits.is in omega (arith, w.0, w.1, c.well_formed)
+pub several-overflow_add-with : goal.several-overflow_add-with
+several-overflow_add-with t c = let w = part_within c.args.inner c.args.levels c.args.p.now c.args.before.used _ _ _ _ c.requires.1 c.record_in.ensures (ap counted c.in_ok-a.was) in omega (arith, w.1, c.well_formed)
+
+pub several-overflow_add-with-2 : goal.several-overflow_add-with-2
+several-overflow_add-with-2 t c = let w = part_within c.args.inner c.args.levels c.args.p.now c.args.before.used _ _ _ _ c.requires.1 c.record_in.ensures (ap counted c.in_ok-a.was) in omega (arith, w.0, w.1, c.well_formed)
 
 pub several-several-requires : goal.several-several-requires
-several-several-requires t c = let w = part_within c.args.inner c.args.levels c.args.p.now c.args.u c.record_in.result c.in-Fits.v c.in-Fits.l c.in-Fits.y c.requires.1 c.record_in.ensures c.in-Fits.is in search rules
+several-several-requires t c = let w = part_within c.args.inner c.args.levels c.args.p.now c.args.before.used _ _ _ _ c.requires.1 c.record_in.ensures (ap counted c.in_ok-a.was) in search rules
 
-pub several-returns-in-Fails : goal.several-returns-in-Fails
-several-returns-in-Fails t c = several_fails c.args.inner c.args.levels c.args.p.now c.args.left c.args.u c.args.m c.args.x c.if-left-eq0.false c.record_in.result c.record_in.ensures c.in-Fails.is
-
-pub several-returns-in-Fits : goal.several-returns-in-Fits
-several-returns-in-Fits t c = several_more c.args.inner c.args.levels c.args.p.now c.args.left c.args.u c.args.m c.args.x c.if-left-eq0.false c.record_in.result c.record_in.ensures c.in-Fits.v c.in-Fits.l c.in-Fits.y c.greater.result c.several.result c.in-Fits.is c.greater.ensures c.several.ensures
+pub several-returns : goal.several-returns
+several-returns t c = several_more c.args.inner c.args.levels c.args.p.now c.args.left _ _ _ c.if-left-eq0.false _ c.record_in.ensures _ _ _ _ _ (ap counted c.in_ok-a.was) (ap need_number c.max.ensures ∙ higher _ _) c.several.ensures

@@ -1,11 +1,11 @@
 use Rattle.leaf.proofs.Ways.{from_image, from_list, from_nowhere}
 use Rattle.leaf.proofs.leaf.Goals as goal
 
-pub returns-in-Image : goal.returns-in-Image
-returns-in-Image c = from_image c.args.image.now c.args.list.now c.part.result.now c.args.place c.in-Image.start c.in-Image.n c.in-Image.is c.part.ensures
+pub returns-in-Some-Image : goal.returns-in-Some-Image
+returns-in-Some-Image c = let q = rw c.in-Some-Image.is at c.in-Some-Image.field-0-is in from_image c.args.image.now c.args.list.now _ c.args.place _ c.in-Some-Image.p c.in-Some-Image.is q c.part.ensures
 
-pub returns-in-List : goal.returns-in-List
-returns-in-List c = from_list c.args.image.now c.args.list.now c.part-in-List.result.now c.args.place c.in-List.start c.in-List.n c.in-List.is c.part-in-List.ensures
+pub returns-in-Some-List : goal.returns-in-Some-List
+returns-in-Some-List c = let q = rw c.in-Some-List.is at c.in-Some-List.field-0-is in from_list c.args.image.now c.args.list.now _ c.args.place _ c.in-Some-List.p c.in-Some-List.is q c.part-in-Some-List.ensures
 
-pub returns-in-Nowhere : goal.returns-in-Nowhere
-returns-in-Nowhere c = from_nowhere c.args.image.now c.args.list.now c.args.place c.in-Nowhere.is
+pub returns-in-None : goal.returns-in-None
+returns-in-None c = from_nowhere c.args.image.now c.args.list.now c.args.place c.in-None.is

@@ -1,9 +1,9 @@
+use Rattle.std.proofs.Common.{◌∙◌}
 use Rattle.leaf.proofs.Ways.{named_there, named_nowhere}
-use Rattle.listing.specs.Find.{find_in}
 use Rattle.leaf.proofs.named.Goals as goal
 
-pub returns-in-At : goal.returns-in-At
-returns-in-At c = named_there c.find.result (find_in c.args.list.now c.args.kind) c.in-At.start c.in-At.n c.find.ensures c.in-At.is
+pub returns-in_err-find : goal.returns-in_err-find
+returns-in_err-find c = c.from_residual.ensures ∙ named_nowhere _ _ c.find.ensures c.in_err-find.was
 
-pub returns-in-Nowhere : goal.returns-in-Nowhere
-returns-in-Nowhere c = named_nowhere c.find.result (find_in c.args.list.now c.args.kind) c.find.ensures c.in-Nowhere.is
+pub returns : goal.returns
+returns c = named_there _ _ c.in_ok-find.field-0 c.find.ensures c.in_ok-find.was

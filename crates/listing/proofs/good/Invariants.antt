@@ -3,8 +3,8 @@ use Prim.Native.Nat.{◌-◌}
 use lib.ListN.{length}
 use Rattle.listing.proofs.good.Given as goal
 
-abbrev pub invariant-loop-k : goal.invariant-loop-k
-invariant-loop-k l = Before l.run l.s l.seen l.at
+abbrev pub invariant-loop-e : goal.invariant-loop-e
+invariant-loop-e l = Before l.run l.s l.seen l.at
 
-abbrev pub decreases-loop-k : goal.decreases-loop-k
-decreases-loop-k l = length l.s - l.at
+abbrev pub decreases-loop-e : goal.decreases-loop-e
+decreases-loop-e l = length l.s - l.at

@@ -1,9 +1,12 @@
+use Rattle.std.proofs.Common.{◌≡◌, ap, rules}
 use Rattle.text_reader.proofs.Answers as answers
+use Rattle.text_reader.specs.Reader.{parsed, cleared}
 use Rattle.texts.specs.Reading.{read_text}
 use Rattle.text_reader.proofs.read.Goals as goal
 
-pub returns-in-Fine : goal.returns-in-Fine
-returns-in-Fine c = answers.answers_fine (read_text c.args.text.now) c.whole.result c.in-Fine.n c.args.out.now c.whole.new.out c.whole.ensures c.in-Fine.is
+pub returns-in-Ok : goal.returns-in-Ok
+returns-in-Ok c = answers.answers_fine (read_text c.args.text.now) (parsed c.whole.result) _ _ _ c.whole.ensures (ap parsed c.in-Ok.is)
 
-pub returns-in-No : goal.returns-in-No
-returns-in-No c = answers.answers_no (read_text c.args.text.now) c.whole.result c.in-No.i c.in-No.w c.args.out.now c.whole.new.out c.clear.new.out c.whole.ensures c.in-No.is c.whole.auto.out c.clear.ensures
+pub returns-in-Err : goal.returns-in-Err
+unfolding cleared
+returns-in-Err c = let z : c.fill.new.self ≡ cleared c.whole.new.out = search rules in answers.answers_no (read_text c.args.text.now) (parsed c.whole.result) _ _ _ _ _ c.whole.ensures (ap parsed c.in-Err.is) c.whole.auto.out z

@@ -2,6 +2,7 @@ use mathlib.Core.Path.{sym, ap}
 use Rattle.common.specs.Choice.{pick}
 use Rattle.tree.specs.Calls.{calls, plain, cipher}
 use Rattle.texts.specs.Packed.{packed, call_by}
+use native.Mathlib.Omega.{arith}
 use Rattle.tokens.specs.Tokens.{call_is, row_is}
 use Rattle.tokens.proofs.Rows.{no_row}
 use Rattle.tokens.proofs.call_by.Goals as goal
@@ -75,5 +76,5 @@ unfolding call_is row_is call_by calls plain cipher packed pick
 returns-in-6514795 c = rw c.in-6514795.is
 
 pub returns-in_default : goal.returns-in_default
-unfolding call_is row_is call_by calls plain cipher packed pick
-returns-in_default c = sym (ap call_is (no_row c.args.w c.in_default.in_default-own.rest.0.0.0.0.0.0.0.0.0.0.0.0.0.0.0.0.1 c.in_default.in_default-own.rest.0.0.0.0.0.0.0.0.0.0.0.0.0.0.0.1 c.in_default.in_default-own.rest.0.0.0.0.0.0.0.0.0.0.0.0.0.0.1 c.in_default.in_default-own.rest.0.0.0.0.0.0.0.0.0.0.0.0.0.1 c.in_default.in_default-own.rest.0.0.0.0.0.0.0.0.0.0.0.0.1 c.in_default.in_default-own.rest.0.0.0.0.0.0.0.0.0.0.0.1 c.in_default.in_default-own.rest.0.0.0.0.0.0.0.0.0.0.1 c.in_default.in_default-own.rest.0.0.0.0.0.0.0.0.0.1 c.in_default.in_default-own.rest.0.0.0.0.0.0.0.0.1 c.in_default.in_default-own.rest.0.0.0.0.0.0.0.1 c.in_default.in_default-own.rest.0.0.0.0.0.0.1 c.in_default.in_default-own.rest.0.0.0.0.0.1 c.in_default.in_default-own.rest.0.0.0.0.1 c.in_default.in_default-own.rest.0.0.0.1 c.in_default.in_default-own.rest.0.0.1 c.in_default.in_default-own.rest.0.1 c.in_default.in_default-own.rest.1))
+unfolding call_is
+returns-in_default c = sym (ap call_is (no_row c.args.w (λ e. omega arith) (λ e. omega arith) (λ e. omega arith) (λ e. omega arith) (λ e. omega arith) (λ e. omega arith) (λ e. omega arith) (λ e. omega arith) (λ e. omega arith) (λ e. omega arith) (λ e. omega arith) (λ e. omega arith) (λ e. omega arith) (λ e. omega arith) (λ e. omega arith) (λ e. omega arith) (λ e. omega arith)))

@@ -1,31 +1,41 @@
+use Rattle.std.proofs.Common.{◌≡◌, ◌+◌, sym, ap, ◌∙◌, arith, rules, Err}
+use Rattle.tokens.specs.Tokens.{Opens}
+use Rattle.texts.proofs.Standing.{Stood, due_is_lem}
 use Rattle.tokens.proofs.Laws as laws
-use Prim.Native.Nat.{◌+◌}
-use native.Mathlib.Omega.{arith}
-use mathlib.Core.Path.{sym, ◌∙◌}
-use Rattle.texts.specs.Reading.{due_at}
-use Rattle.texts.proofs.Standing.{due_is_lem}
 use Rattle.tokens.proofs.suite_at.Goals as goal
+use Rattle.tokens.proofs.suite_at.Goals.{In_ok-due_at, In_ok-due_at-2}
+
+-- the `.` and the suite digit
+dot : (c : In_ok-due_at) → Stood c.args.s.now 46 46 c.args.q
+dot c = due_is_lem _ _ _ _ (laws.due_stood _ _ (sym c.due_at.ensures ∙ c.in_ok-due_at.was))
+
+digit : (c : In_ok-due_at-2) → Stood c.args.s.now 49 53 (c.args.q + 1)
+digit c = due_is_lem _ _ _ _ (laws.due_stood _ _ (sym c.due_at-2.ensures ∙ c.in_ok-due_at-2.was))
+
+pub returns-in_err-due_at : goal.returns-in_err-due_at
+returns-in_err-due_at c = let h : c.from_residual.result ≡ Err c.in_err-due_at.field-0.0 = search rules in h ∙ laws.suite_no_dot _ _ _ _ _ (sym c.due_at.ensures ∙ c.in_err-due_at.was)
 
 pub overflow_add-q : goal.overflow_add-q
-overflow_add-q c = let d = due_is_lem c.args.s.now 46 46 c.args.q (laws.due_stood (due_at c.args.s.now 46 46 c.args.q) (sym c.due_at.ensures ∙ c.in-Stands.is)) in let i = d.inside in omega arith
+overflow_add-q c = let i = (dot (goal.at.overflow_add-q c).In_ok-due_at).inside in omega arith
 
-pub overflow_add-q-in-Stands-due_at : goal.overflow_add-q-in-Stands-due_at
-overflow_add-q-in-Stands-due_at c = let d = due_is_lem c.args.s.now 46 46 c.args.q (laws.due_stood (due_at c.args.s.now 46 46 c.args.q) (sym c.due_at.ensures ∙ c.in-Stands.is)) in let i = d.inside in omega arith
+pub returns-in_err-due_at-2 : goal.returns-in_err-due_at-2
+returns-in_err-due_at-2 c =
+    let h : c.from_residual-in_err-due_at-2.result ≡ Err c.in_err-due_at-2.field-0.0 = search rules in
+    h ∙ laws.suite_no_digit _ _ _ _ _ _ (sym c.due_at.ensures ∙ c.in_ok-due_at.was) (sym c.due_at-2.ensures ∙ c.in_err-due_at-2.was)
+
+pub overflow_add-q-2 : goal.overflow_add-q-2
+overflow_add-q-2 c = let i = (dot (goal.at.overflow_add-q-2 c).In_ok-due_at).inside in omega arith
 
 pub bounds-s-q : goal.bounds-s-q
-bounds-s-q c = let d2 = due_is_lem c.args.s.now 49 53 (c.args.q + 1) (laws.due_stood (due_at c.args.s.now 49 53 (c.args.q + 1)) (sym c.due_at-in-Stands.ensures ∙ c.in-Stands-due_at.is)) in let i2 = d2.inside in let l2 = d2.low in omega arith
+bounds-s-q c = let i = (digit (goal.at.bounds-s-q c).In_ok-due_at-2).inside in omega arith
 
-pub overflow_sub-result : goal.overflow_sub-result
-overflow_sub-result c = let d2 = due_is_lem c.args.s.now 49 53 (c.args.q + 1) (laws.due_stood (due_at c.args.s.now 49 53 (c.args.q + 1)) (sym c.due_at-in-Stands.ensures ∙ c.in-Stands-due_at.is)) in let i2 = d2.inside in let l2 = d2.low in omega (arith, c.wide.ensures)
+pub overflow_sub-s : goal.overflow_sub-s
+overflow_sub-s c = let i = (digit (goal.at.overflow_sub-s c).In_ok-due_at-2).low in omega arith
 
-pub overflow_add-result-in-Stands-due_at : goal.overflow_add-result-in-Stands-due_at
-overflow_add-result-in-Stands-due_at c = let d2 = due_is_lem c.args.s.now 49 53 (c.args.q + 1) (laws.due_stood (due_at c.args.s.now 49 53 (c.args.q + 1)) (sym c.due_at-in-Stands.ensures ∙ c.in-Stands-due_at.is)) in let i2 = d2.inside in let l2 = d2.low in omega arith
+pub overflow_add-result-2 : goal.overflow_add-result-2
+overflow_add-result-2 c = let i = (digit (goal.at.overflow_add-result-2 c).In_ok-due_at-2).inside in omega arith
 
-pub returns-in-Missing : goal.returns-in-Missing
-returns-in-Missing c = laws.suite_no_dot c.args.s.now c.args.k c.args.c c.args.q c.in-Missing.w (laws.due_missed (due_at c.args.s.now 46 46 c.args.q) c.in-Missing.w (sym c.due_at.ensures ∙ c.in-Missing.is))
-
-pub returns-in-Missing-due_at : goal.returns-in-Missing-due_at
-returns-in-Missing-due_at c = laws.suite_no_digit c.args.s.now c.args.k c.args.c c.args.q c.in-Missing-due_at.w (laws.due_stood (due_at c.args.s.now 46 46 c.args.q) (sym c.due_at.ensures ∙ c.in-Stands.is)) (laws.due_missed (due_at c.args.s.now 49 53 (c.args.q + 1)) c.in-Missing-due_at.w (sym c.due_at-in-Stands.ensures ∙ c.in-Missing-due_at.is))
-
-pub returns-in-Stands-due_at : goal.returns-in-Stands-due_at
-returns-in-Stands-due_at c = laws.suite_done c.args.s.now c.args.k c.args.c c.args.q c.wide.result (laws.due_stood (due_at c.args.s.now 46 46 c.args.q) (sym c.due_at.ensures ∙ c.in-Stands.is)) (laws.due_stood (due_at c.args.s.now 49 53 (c.args.q + 1)) (sym c.due_at-in-Stands.ensures ∙ c.in-Stands-due_at.is)) c.wide.ensures.0
+pub returns : goal.returns
+returns c =
+    ap (λ x. Opens (c.args.k + x) c.args.c (c.args.q + 2)) c.from.ensures
+    ∙ laws.suite_done _ _ _ _ _ _ (sym c.due_at.ensures ∙ c.in_ok-due_at.was) (sym c.due_at-2.ensures ∙ c.in_ok-due_at-2.was)
