@@ -2,8 +2,10 @@
 use mathlib.Core.Path.{◌≡◌, ap, ap₂, sym, ◌∙◌}
 use mathlib.Core.List.{List, [], ◌∷◌}
 use Prim.Native.Nat.{ℕ, ◌+◌, ◌%◌, ◌≤◌, ◌<◌}
+use native.Mathlib.Omega.{arith}
 use lib.ListN.{length, take, drop}
 use borrow.Author.Tests.{eq-eqb, ne_eqb}
+use Rattle.std.specs.Prelude.{Result}
 use Rattle.common.specs.Answer.{Delivered, deliver}
 use Rattle.common.proofs.Choices.{pick_true, pick_false}
 use Rattle.tree.specs.Bounds.{Bytes, arguments_of, when_kind}
@@ -12,7 +14,7 @@ use Rattle.meaning.proofs.Plain.{real_valued}
 use Rattle.meaning.proofs.Refusals.{real_numbered}
 use Rattle.modes.specs.Cell.{call_of, cell, cell_of}
 use Rattle.demands.proofs.Real.{cell_valued, numbered}
-use Rattle.answers.specs.declared.Told.{Told}
+use Rattle.answers.specs.declared.Refusal.{Refusal}
 use Rattle.answers.specs.Told.{told_of}
 use Rattle.slots.proofs.Settling.{Led, led}
 use Rattle.applying.proofs.Numbering.{number_in, two_cell, three_cell}
@@ -24,28 +26,26 @@ module _ (k : ℕ) (a b out : List ℕ) (d : Delivered) where
   unfolding real_two
   as_cat e h = h ∙ sym (ap (λ x. deliver x out) (pick_true _ _ _ (eq-eqb k 0x0010 e)))
 
-  module _ (n0 : k ≡ 0x0010 → ⊥) where
-    pub as_xor : k ≡ 0x0011 → d ≡ deliver (xor a b) out → d ≡ deliver (real_two cell_of k a b) out
-    unfolding real_two
-    as_xor e h = h ∙ sym (ap (λ x. deliver x out) (pick_false _ _ _ (ne_eqb k 0x0010 n0) ∙ pick_true _ _ _ (eq-eqb k 0x0011 e)))
+  pub as_xor : k ≡ 0x0011 → d ≡ deliver (xor a b) out → d ≡ deliver (real_two cell_of k a b) out
+  unfolding real_two
+  as_xor e h = h ∙ sym (ap (λ x. deliver x out) (pick_false _ _ _ (ne_eqb k 0x0010 (λ q. omega arith)) ∙ pick_true _ _ _ (eq-eqb k 0x0011 e)))
 
-    module _ (n1 : k ≡ 0x0011 → ⊥) where
-      pub as_eq : k ≡ 0x0012 → d ≡ deliver (eq a b) out → d ≡ deliver (real_two cell_of k a b) out
-      unfolding real_two
-      as_eq e h = h ∙ sym (ap (λ x. deliver x out) (pick_false _ _ _ (ne_eqb k 0x0010 n0) ∙ pick_false _ _ _ (ne_eqb k 0x0011 n1) ∙ pick_true _ _ _ (eq-eqb k 0x0012 e)))
+  pub as_eq : k ≡ 0x0012 → d ≡ deliver (eq a b) out → d ≡ deliver (real_two cell_of k a b) out
+  unfolding real_two
+  as_eq e h =
+      h ∙ sym (ap (λ x. deliver x out) (pick_false _ _ _ (ne_eqb k 0x0010 (λ q. omega arith)) ∙ pick_false _ _ _ (ne_eqb k 0x0011 (λ q. omega arith)) ∙ pick_true _ _ _ (eq-eqb k 0x0012 e)))
 
-      module _ (n2 : k ≡ 0x0012 → ⊥) where
-        pub as_head : k ≡ 0x0013 → d ≡ deliver (head a b) out → d ≡ deliver (real_two cell_of k a b) out
-        unfolding real_two
-        as_head e h =
-            h ∙ sym (ap (λ x. deliver x out)
-            (pick_false _ _ _ (ne_eqb k 0x0010 n0) ∙ pick_false _ _ _ (ne_eqb k 0x0011 n1) ∙ pick_false _ _ _ (ne_eqb k 0x0012 n2) ∙ pick_true _ _ _ (eq-eqb k 0x0013 e)))
+  pub as_head : k ≡ 0x0013 → d ≡ deliver (head a b) out → d ≡ deliver (real_two cell_of k a b) out
+  unfolding real_two
+  as_head e h =
+      h ∙ sym (ap (λ x. deliver x out)
+      (pick_false _ _ _ (ne_eqb k 0x0010 (λ q. omega arith)) ∙ pick_false _ _ _ (ne_eqb k 0x0011 (λ q. omega arith)) ∙ pick_false _ _ _ (ne_eqb k 0x0012 (λ q. omega arith)) ∙ pick_true _ _ _ (eq-eqb k 0x0013 e)))
 
-        pub as_cipher : (k ≡ 0x0013 → ⊥) → arguments_of k ≡ 2 → 0x0013 < k → d ≡ deliver (cell (call_of (number_in k)) (k % 16) a [] b) out → d ≡ deliver (real_two cell_of k a b) out
-        unfolding real_two
-        as_cipher n3 ea hk h =
-            h ∙ sym (ap (λ x. deliver x out)
-            (pick_false _ _ _ (ne_eqb k 0x0010 n0) ∙ pick_false _ _ _ (ne_eqb k 0x0011 n1) ∙ pick_false _ _ _ (ne_eqb k 0x0012 n2) ∙ pick_false _ _ _ (ne_eqb k 0x0013 n3) ∙ two_cell k ea hk a b))
+  pub as_cipher : arguments_of k ≡ 2 → 0x0013 < k → d ≡ deliver (cell (call_of (number_in k)) (k % 16) a [] b) out → d ≡ deliver (real_two cell_of k a b) out
+  unfolding real_two
+  as_cipher ea hk h =
+      h ∙ sym (ap (λ x. deliver x out)
+      (pick_false _ _ _ (ne_eqb k 0x0010 (λ q. omega arith)) ∙ pick_false _ _ _ (ne_eqb k 0x0011 (λ q. omega arith)) ∙ pick_false _ _ _ (ne_eqb k 0x0012 (λ q. omega arith)) ∙ pick_false _ _ _ (ne_eqb k 0x0013 (λ q. omega arith)) ∙ two_cell k ea hk a b))
 
 -- `call_three`
 pub as_three : (k : ℕ) (a b c out : List ℕ) (d : Delivered) → arguments_of k ≡ 3 → (k ≡ when_kind → ⊥) → d ≡ deliver (cell (call_of (number_in k)) (k % 16) a b c) out
@@ -53,7 +53,7 @@ pub as_three : (k : ℕ) (a b c out : List ℕ) (d : Delivered) → arguments_of
 as_three k a b c out d e n h = h ∙ sym (ap (λ x. deliver x out) (three_cell k e n a b c))
 
 -- `apply_two`, `apply_three`: what the call told and wrote is the answer, in a room of its own
-module _ (k o : ℕ) (w mid ys : List ℕ) (r : Told) (hw : Bytes w) (hm : length mid ≡ 1024) where
+module _ (k o : ℕ) (w mid ys : List ℕ) (r : Result ℕ Refusal) (hw : Bytes w) (hm : length mid ≡ 1024) where
   pub two_led : (a b : List ℕ) (la lb : ℕ) → la ≤ 1024 → lb ≤ 1024 → a ≡ take la (drop o w) → b ≡ take lb (drop (o + 1024) w) → told_of r ys ≡ deliver (real_two cell_of k a b) mid
       → Led (real_two cell_of k (take la (drop o w)) (take lb (drop (o + 1024) w))) r ys
   unfolding real

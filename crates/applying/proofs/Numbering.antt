@@ -1,7 +1,7 @@
 -- A cipher call's kind, its number f, and what both say of its arguments and tables (document 01, section 6).
 use mathlib.Core.Path.{◌≡◌, refl, ap, sym}
 use mathlib.Core.Bool.{Bool, true, false}
-use mathlib.Core.List.{List, [], ◌∷◌}
+use mathlib.Core.List.{[], ◌∷◌}
 use Prim.Native.Nat.{ℕ, ◌-◌, ◌/◌, ◌%◌, ◌≤◌, ◌<◌}
 use native.Mathlib.Omega.{arith}
 use lib.Dec.{eqb, leb}
@@ -15,7 +15,8 @@ use Rattle.tree.proofs.Table.{call_kind}
 use Rattle.meaning.specs.Real.{ciphered}
 use Rattle.kinds.specs.Tables.{opens, tables_for}
 use Rattle.kinds.proofs.Quick.{all_below, all_at}
-use Rattle.lent.specs.Lent.{need_of, Lent}
+use Rattle.lent.specs.declared.Tables.{Tables}
+use Rattle.lent.specs.Lent.{need_of, Serves}
 use Rattle.modes.specs.Cell.{Call, call_of, Side, side_of, cell, arranged, cell_of}
 
 -- whether a call has neither IV nor tag
@@ -116,8 +117,8 @@ module _ (k : ℕ) (e : arguments_of k ≡ 3) (h : k ≡ when_kind → ⊥) wher
   three_cell a b c = arranged_three (side_of (call_of (number_in k))) (call_of (number_in k)) (k % 16) a b c three_case.0
 
 -- tables for a kind serve its number
-pub lent_number : (k : ℕ) (tab back p u : List ℕ) → Says k → Lent (tables_for k) tab back p u → Lent (need_of (number_in k)) tab back p u
-lent_number k tab back p u s L =
+pub lent_number : (k : ℕ) (tables : Tables) → Says k → Serves (tables_for k) tables → Serves (need_of (number_in k)) tables
+lent_number k tables s L =
     let n = s.need in
     record { sealing = λ q. L.sealing (omega arith); opening = λ q. L.opening (omega arith); forward = λ q. L.forward (omega arith); backward = λ q. L.backward (omega arith) }
 

@@ -4,19 +4,22 @@ use mathlib.Core.Bool.{Bool, true, false}
 use mathlib.Core.List.{List, [], ◌∷◌, ◌++◌}
 use Prim.Native.Nat.{ℕ, ◌+◌, ◌-◌, ◌≤◌, ◌<◌}
 use native.Mathlib.Omega.{arith}
+use lib.Dec.{eqb}
 use lib.ListN.{length, get_or, take, drop, length-drop, take-append-drop}
 use lib.Seq.{length-take-le, get_or-take, get_or-drop}
 use borrow.Author.Tests.{eq-eqb, ne_eqb}
 use borrow.Rule.Slice.PartMut.{mid_of, put_mid}
+use Rattle.std.specs.Prelude.{Option, Some, None, Result, Ok, Err}
 use Rattle.common.specs.Choice.{pick}
-use Rattle.common.specs.Answer.{Value, Answer, Delivered, then, refusal, deliver}
+use Rattle.common.specs.Answer.{Value, Answer, Delivered, then, deliver}
+use Rattle.common.specs.Answer as answer
 use Rattle.common.specs.Answer.Answer.{value}
 use Rattle.common.proofs.Choices.{pick_true, pick_false}
 use Rattle.tree.specs.Tree.{Tree}
 use Rattle.tree.specs.Tree.Tree.{literal, bound, row, run, one, two, three, four, when}
 use Rattle.tree.specs.Bounds.{Bytes, depth, Proper, Small}
 use Rattle.meaning.specs.Mean.{Calls, named, mean, side_of, chosen}
-use Rattle.meaning.specs.Mean.Side.{neither}
+use Rattle.meaning.specs.Mean.Side.{first, second, neither}
 use Rattle.meaning.specs.Real.{real}
 use Rattle.meaning.specs.Values.{Valued}
 use Rattle.meaning.specs.Numbers.{Numbered}
@@ -32,15 +35,15 @@ use Rattle.lists.specs.Entries.Listed.{listed}
 use Rattle.lists.specs.Given.{value_of, binding_of, running_of}
 use Rattle.lists.proofs.Values.{binding_valued, running_valued}
 use Rattle.leaf.specs.declared.Place.{Place}
-use Rattle.leaf.specs.declared.Place.TheVariants.{Image, List as InList, Nowhere}
+use Rattle.leaf.specs.declared.Place.TheVariants.{Image, List as InList}
 use Rattle.leaf.specs.Place.{place_of, placed, bytes_of, leaf_in}
 use Rattle.leaf.proofs.Leaves.{IsLeaf, leaf_given}
 use Rattle.modes.specs.Cell.{cell_of}
 use Rattle.demands.proofs.Real.{cell_valued, numbered}
-use Rattle.answers.specs.declared.Told.{Told}
-use Rattle.answers.specs.declared.Told.TheVariants.{Done, Refused}
-use Rattle.answers.specs.Told.{number_of, count_of, told_of}
-use Rattle.slots.specs.Slots.{At, settled_of}
+use Rattle.answers.specs.declared.Refusal.{Refusal}
+use Rattle.answers.specs.declared.Refusal.TheVariants as refusal
+use Rattle.answers.specs.Told.{table, number_by, number_of, count_of, told_of}
+use Rattle.slots.specs.Slots.{At}
 use Rattle.slots.proofs.Settling.{at_slot}
 use Rattle.slots.proofs.Standing.{Has, has_of, refused_of, at_refused, kept_down, has_kept, at_earlier}
 use Rattle.evaluating.specs.Stretch.{Stretch, Means, side_by}
@@ -49,23 +52,24 @@ use Rattle.evaluating.proofs.Readied.{head_kind}
 
 -- ---- `give_leaf`
 
-module _ (image list out : List ℕ) (q p : Place) (e : q ≡ p) where
-  pub leaf_nowhere : q ≡ Nowhere → told_of (Refused 25) out ≡ deliver (named (placed image list p)) out
-  unfolding placed named told_of number_of count_of deliver refusal
+there_named : (image list : List ℕ) (x : Place) → named (placed image list (Some x)) ≡ value (bytes_of (placed image list (Some x)))
+unfolding placed bytes_of named
+there_named image list (Image p) = refl
+there_named image list (InList p) = refl
+
+module _ (image list out : List ℕ) (q p : Option Place) (e : q ≡ p) where
+  pub leaf_nowhere : q ≡ None → told_of (Err refusal.Absent) out ≡ deliver (named (placed image list p)) out
+  unfolding placed named told_of number_of number_by table count_of deliver answer.refusal
   leaf_nowhere f = sym (ap (λ q. deliver (named (placed image list q)) out) (sym e ∙ f))
 
-  pub leaf_image : (start n : ℕ) → q ≡ Image start n → (v : List ℕ) (d : Delivered) → v ≡ bytes_of (placed image list (Image start n)) → d ≡ deliver (value v) out → d ≡ deliver (named (placed image list p)) out
-  unfolding placed bytes_of named
-  leaf_image start n f v d g h = h ∙ ap (λ x. deliver (value x) out) g ∙ ap (λ q. deliver (named (placed image list q)) out) (sym f ∙ e)
-
-  pub leaf_list : (start n : ℕ) → q ≡ InList start n → (v : List ℕ) (d : Delivered) → v ≡ bytes_of (placed image list (InList start n)) → d ≡ deliver (value v) out → d ≡ deliver (named (placed image list p)) out
-  unfolding placed bytes_of named
-  leaf_list start n f v d g h = h ∙ ap (λ x. deliver (value x) out) g ∙ ap (λ q. deliver (named (placed image list q)) out) (sym f ∙ e)
+  pub leaf_there : (x : Place) → q ≡ Some x → (v : List ℕ) (d : Delivered) → v ≡ bytes_of (placed image list (Some x)) → d ≡ deliver (value v) out → d ≡ deliver (named (placed image list p)) out
+  leaf_there x f v d g h =
+      h ∙ ap (λ x. deliver (value x) out) g ∙ sym (ap (λ x. deliver x out) (there_named image list x)) ∙ ap (λ q. deliver (named (placed image list q)) out) (sym f ∙ e)
 
 -- ---- `side`
 
-one_byte : (v : List ℕ) → length v ≡ 1 → side_of v ≡ side_by (get_or v 0 0)
-unfolding side_of side_by
+one_byte : (v : List ℕ) → length v ≡ 1 → side_of v ≡ pick (eqb (get_or v 0 0) 0x01) first (pick (eqb (get_or v 0 0) 0x00) second neither)
+unfolding side_of
 one_byte [] h = absurd (omega arith)
 one_byte (x ∷ []) h = refl
 one_byte (x ∷ (y ∷ r)) h = absurd (omega arith)
@@ -80,14 +84,27 @@ module _ (w : List ℕ) (o n : ℕ) (h : o + n ≤ length w) where
   slot_length : length (take n (drop o w)) ≡ n
   slot_length = length-take-le n (drop o w) (let l = length-drop o w in omega arith)
 
-  pub side_one : n ≡ 1 → side_by (get_or w o 0) ≡ side_of (take n (drop o w))
-  side_one e =
-      sym (one_byte (take n (drop o w)) (slot_length ∙ e)
-      ∙ ap side_by (get_or-take n (drop o w) 0 0 (omega arith) ∙ get_or-drop o w 0 0 ∙ ap (λ i. get_or w i 0) (omega arith)))
-
-  pub side_none : (n ≡ 1 → ⊥) → side_by 2 ≡ side_of (take n (drop o w))
-  unfolding side_by pick
+  pub side_none : (n ≡ 1 → ⊥) → side_by None ≡ side_of (take n (drop o w))
+  unfolding side_by
   side_none e = sym (not_one_byte (take n (drop o w)) (λ q. e (sym slot_length ∙ q)))
+
+  module _ (e : n ≡ 1) where
+    the_byte : side_of (take n (drop o w)) ≡ pick (eqb (get_or w o 0) 0x01) first (pick (eqb (get_or w o 0) 0x00) second neither)
+    the_byte =
+        one_byte (take n (drop o w)) (slot_length ∙ e)
+        ∙ ap (λ x. pick (eqb x 0x01) first (pick (eqb x 0x00) second neither)) (get_or-take n (drop o w) 0 0 (omega arith) ∙ get_or-drop o w 0 0 ∙ ap (λ i. get_or w i 0) (omega arith))
+
+    pub side_first : get_or w o 0 ≡ 0x01 → side_by (Some true) ≡ side_of (take n (drop o w))
+    unfolding side_by
+    side_first q = sym (the_byte ∙ pick_true _ _ _ (eq-eqb (get_or w o 0) 0x01 q))
+
+    pub side_second : (get_or w o 0 ≡ 0x01 → ⊥) → get_or w o 0 ≡ 0x00 → side_by (Some false) ≡ side_of (take n (drop o w))
+    unfolding side_by
+    side_second p q = sym (the_byte ∙ pick_false _ _ _ (ne_eqb (get_or w o 0) 0x01 p) ∙ pick_true _ _ _ (eq-eqb (get_or w o 0) 0x00 q))
+
+    pub side_other : (get_or w o 0 ≡ 0x01 → ⊥) → (get_or w o 0 ≡ 0x00 → ⊥) → side_by None ≡ side_of (take n (drop o w))
+    unfolding side_by
+    side_other p q = sym (the_byte ∙ pick_false _ _ _ (ne_eqb (get_or w o 0) 0x01 p) ∙ pick_false _ _ _ (ne_eqb (get_or w o 0) 0x00 q))
 
 -- ---- a leaf in its slot
 
@@ -127,39 +144,38 @@ module _ (taken : ℕ → Bool) (list : List ℕ) (es : List Entry) (hl : Bytes 
   pub means_numbered : (t : Tree) → Numbered (mean C (binding_of es) (running_of es) t)
   means_numbered = mean_numbered C (binding_of es) (running_of es) (real_numbered cell_of numbered)
 
-pub leaf_at_lem : (image list : List ℕ) (start end o e : ℕ) (r : Told) (w ys : List ℕ) → Bytes list → word image (start + 2) < 0x0010 → e ≡ o + 1024 → e ≤ length w
+pub leaf_at_lem : (image list : List ℕ) (start end o e : ℕ) (r : Result ℕ Refusal) (w ys : List ℕ) → Bytes list → word image (start + 2) < 0x0010 → e ≡ o + 1024 → e ≤ length w
     → length ys ≡ length (mid_of o (e - o) w) → told_of r ys ≡ deliver (named (placed image list (place_of image start list))) (mid_of o (e - o) w)
-    → (r' : Told) → r' ≡ settled_of r → Means image list start end o r' w (put_mid o (e - o) w ys)
+    → Means image list start end o r w (put_mid o (e - o) w ys)
 unfolding Means
-leaf_at_lem image list start end o e r w ys hl k he hw ly d r' er taken es t el S =
-    subst (λ x. At (mean (real cell_of) (binding_of es) (running_of es) t) o x w (put_mid o (e - o) w ys)) (sym er)
+leaf_at_lem image list start end o e r w ys hl k he hw ly d taken es t el S =
     (at_slot (mean (real cell_of) (binding_of es) (running_of es) t) o e r w ys he hw ly
     (means_valued taken list es hl el t S.proper S.small) (means_numbered taken list es hl el t)
     (d ∙ ap (λ x. deliver x (mid_of o (e - o) w)) (leaf_means taken list es hl el image start end t S k)))
 
 -- ---- arguments left to right, over whatever they answer
 
-module _ (xa xb : Answer) (f : Value → Value → Answer) (o : ℕ) (w w1 : List ℕ) (r1 : Told) (A1 : At xa o r1 w w1) where
+module _ (xa xb : Answer) (f : Value → Value → Answer) (o : ℕ) (w w1 : List ℕ) (r1 : Result ℕ Refusal) (A1 : At xa o r1 w w1) where
   abbrev pair : Answer
   pair = then xa (λ x. then xb (λ y. f x y))
 
-  pub pair_first : (n : ℕ) → r1 ≡ Refused n → At pair o (Refused n) w w1
+  pub pair_first : (n : Refusal) → r1 ≡ Err n → At pair o (Err n) w w1
   unfolding then
   pair_first n e = at_refused n o pair w w1 (ap (λ x. then x (λ x. then xb (λ y. f x y))) (refused_of xa o n r1 w w1 A1 e)) A1.kept
 
-  module _ (la : ℕ) (e1 : r1 ≡ Done la) (w2 : List ℕ) (r2 : Told) (A2 : At xb (o + 1024) r2 w1 w2) where
+  module _ (la : ℕ) (e1 : r1 ≡ Ok la) (w2 : List ℕ) (r2 : Result ℕ Refusal) (A2 : At xb (o + 1024) r2 w1 w2) where
     pair_kept : take o w2 ≡ take o w
     pair_kept = kept_down o (o + 1024) w2 w1 (omega arith) A2.kept ∙ A1.kept
 
     abbrev H1 : Has xa la o w1
     H1 = has_of xa o la r1 w w1 A1 e1
 
-    pub pair_second : (n : ℕ) → r2 ≡ Refused n → At pair o (Refused n) w w2
+    pub pair_second : (n : Refusal) → r2 ≡ Err n → At pair o (Err n) w w2
     unfolding then
     pair_second n e =
         at_refused n o pair w w2 (ap (λ x. then x (λ x. then xb (λ y. f x y))) H1.is ∙ ap (λ x. then x (λ y. f H1.v y)) (refused_of xb (o + 1024) n r2 w1 w2 A2 e)) pair_kept
 
-    pub pair_both : (lb : ℕ) → r2 ≡ Done lb → o ≤ length w1 → o ≤ length w2 → (w3 : List ℕ) (r3 : Told)
+    pub pair_both : (lb : ℕ) → r2 ≡ Ok lb → o ≤ length w1 → o ≤ length w2 → (w3 : List ℕ) (r3 : Result ℕ Refusal)
         → At (f (take la (drop o w2)) (take lb (drop (o + 1024) w2))) o r3 w2 w3 → At pair o r3 w w3
     unfolding then
     pair_both lb e2 l1 l2 w3 r3 A3 =
@@ -169,42 +185,42 @@ module _ (xa xb : Answer) (f : Value → Value → Answer) (o : ℕ) (w w1 : Lis
         sym (ap (λ x. then x (λ x. then xb (λ y. f x y))) K1.is ∙ ap (λ x. then x (λ y. f K1.v y)) H2.is ∙ ap₂ f (sym K1.bytes) (sym H2.bytes)) in
         subst (λ x. At x o r3 w w3) m (at_earlier _ o r3 w w2 w3 pair_kept A3)
 
-module _ (xa xb xc : Answer) (f : Value → Value → Value → Answer) (o : ℕ) (w w1 : List ℕ) (r1 : Told) (A1 : At xa o r1 w w1) where
+module _ (xa xb xc : Answer) (f : Value → Value → Value → Answer) (o : ℕ) (w w1 : List ℕ) (r1 : Result ℕ Refusal) (A1 : At xa o r1 w w1) where
   abbrev triple : Answer
   triple = then xa (λ x. then xb (λ y. then xc (λ z. f x y z)))
 
-  pub triple_first : (n : ℕ) → r1 ≡ Refused n → At triple o (Refused n) w w1
+  pub triple_first : (n : Refusal) → r1 ≡ Err n → At triple o (Err n) w w1
   unfolding then
   triple_first n e = at_refused n o triple w w1 (ap (λ x. then x (λ x. then xb (λ y. then xc (λ z. f x y z)))) (refused_of xa o n r1 w w1 A1 e)) A1.kept
 
-  module _ (la : ℕ) (e1 : r1 ≡ Done la) (w2 : List ℕ) (r2 : Told) (A2 : At xb (o + 1024) r2 w1 w2) where
+  module _ (la : ℕ) (e1 : r1 ≡ Ok la) (w2 : List ℕ) (r2 : Result ℕ Refusal) (A2 : At xb (o + 1024) r2 w1 w2) where
     kept_2 : take o w2 ≡ take o w
     kept_2 = kept_down o (o + 1024) w2 w1 (omega arith) A2.kept ∙ A1.kept
 
     abbrev G1 : Has xa la o w1
     G1 = has_of xa o la r1 w w1 A1 e1
 
-    pub triple_second : (n : ℕ) → r2 ≡ Refused n → At triple o (Refused n) w w2
+    pub triple_second : (n : Refusal) → r2 ≡ Err n → At triple o (Err n) w w2
     unfolding then
     triple_second n e =
         at_refused n o triple w w2
         (ap (λ x. then x (λ x. then xb (λ y. then xc (λ z. f x y z)))) G1.is ∙ ap (λ x. then x (λ y. then xc (λ z. f G1.v y z))) (refused_of xb (o + 1024) n r2 w1 w2 A2 e)) kept_2
 
-    module _ (lb : ℕ) (e2 : r2 ≡ Done lb) (w3 : List ℕ) (r3 : Told) (A3 : At xc (o + 2048) r3 w2 w3) where
+    module _ (lb : ℕ) (e2 : r2 ≡ Ok lb) (w3 : List ℕ) (r3 : Result ℕ Refusal) (A3 : At xc (o + 2048) r3 w2 w3) where
       kept_3 : take o w3 ≡ take o w
       kept_3 = kept_down o (o + 2048) w3 w2 (omega arith) A3.kept ∙ kept_2
 
       abbrev G2 : Has xb lb (o + 1024) w2
       G2 = has_of xb (o + 1024) lb r2 w1 w2 A2 e2
 
-      pub triple_third : (n : ℕ) → r3 ≡ Refused n → At triple o (Refused n) w w3
+      pub triple_third : (n : Refusal) → r3 ≡ Err n → At triple o (Err n) w w3
       unfolding then
       triple_third n e =
           at_refused n o triple w w3
           (ap (λ x. then x (λ x. then xb (λ y. then xc (λ z. f x y z)))) G1.is ∙ ap (λ x. then x (λ y. then xc (λ z. f G1.v y z))) G2.is
           ∙ ap (λ x. then x (λ z. f G1.v G2.v z)) (refused_of xc (o + 2048) n r3 w2 w3 A3 e)) kept_3
 
-      pub triple_all : (lc : ℕ) → r3 ≡ Done lc → o ≤ length w1 → o + 1024 ≤ length w2 → o + 1024 ≤ length w3 → (w4 : List ℕ) (r4 : Told)
+      pub triple_all : (lc : ℕ) → r3 ≡ Ok lc → o ≤ length w1 → o + 1024 ≤ length w2 → o + 1024 ≤ length w3 → (w4 : List ℕ) (r4 : Result ℕ Refusal)
           → At (f (take la (drop o w3)) (take lb (drop (o + 1024) w3)) (take lc (drop (o + 2048) w3))) o r4 w3 w4 → At triple o r4 w w4
       unfolding then
       triple_all lc e3 l1 l2 l3 w4 r4 A4 =
@@ -221,15 +237,15 @@ module _ (xa xb xc : Answer) (f : Value → Value → Value → Answer) (o : ℕ
           subst (λ x. At x o r4 w w4) m (at_earlier _ o r4 w w3 w4 kept_3 A4)
 
 -- only the chosen side counts
-module _ (xc xa xb : Answer) (o : ℕ) (w w1 : List ℕ) (r1 : Told) (A1 : At xc o r1 w w1) where
+module _ (xc xa xb : Answer) (o : ℕ) (w w1 : List ℕ) (r1 : Result ℕ Refusal) (A1 : At xc o r1 w w1) where
   abbrev choice : Answer
   choice = then xc (λ x. chosen (side_of x) xa xb)
 
-  pub choice_refused : (n : ℕ) → r1 ≡ Refused n → At choice o (Refused n) w w1
+  pub choice_refused : (n : Refusal) → r1 ≡ Err n → At choice o (Err n) w w1
   unfolding then
   choice_refused n e = at_refused n o choice w w1 (ap (λ x. then x (λ x. chosen (side_of x) xa xb)) (refused_of xc o n r1 w w1 A1 e)) A1.kept
 
-  module _ (n s : ℕ) (e1 : r1 ≡ Done n) (es : side_by s ≡ side_of (take n (drop o w1))) where
+  module _ (n : ℕ) (s : Option Bool) (e1 : r1 ≡ Ok n) (es : side_by s ≡ side_of (take n (drop o w1))) where
     abbrev HC : Has xc n o w1
     HC = has_of xc o n r1 w w1 A1 e1
 
@@ -237,16 +253,16 @@ module _ (xc xa xb : Answer) (o : ℕ) (w w1 : List ℕ) (r1 : Told) (A1 : At xc
     unfolding then
     by_side = ap (λ x. then x (λ x. chosen (side_of x) xa xb)) HC.is ∙ ap (λ q. chosen q xa xb) (sym (es ∙ ap side_of HC.bytes))
 
-    pub choice_first : s ≡ 0x01 → (w2 : List ℕ) (r2 : Told) → At xa o r2 w1 w2 → At choice o r2 w w2
+    pub choice_first : s ≡ Some true → (w2 : List ℕ) (r2 : Result ℕ Refusal) → At xa o r2 w1 w2 → At choice o r2 w w2
     unfolding chosen side_by
     choice_first q w2 r2 A2 =
-        subst (λ x. At x o r2 w w2) (sym (by_side ∙ ap (λ z. chosen z xa xb) (pick_true _ _ _ (eq-eqb s 0x01 q)))) (at_earlier xa o r2 w w1 w2 A1.kept A2)
+        subst (λ x. At x o r2 w w2) (sym (by_side ∙ ap (λ z. chosen (side_by z) xa xb) q)) (at_earlier xa o r2 w w1 w2 A1.kept A2)
 
-    pub choice_second : (s ≡ 0x01 → ⊥) → s ≡ 0x00 → (w2 : List ℕ) (r2 : Told) → At xb o r2 w1 w2 → At choice o r2 w w2
+    pub choice_second : s ≡ Some false → (w2 : List ℕ) (r2 : Result ℕ Refusal) → At xb o r2 w1 w2 → At choice o r2 w w2
     unfolding chosen side_by
-    choice_second p q w2 r2 A2 =
-        subst (λ x. At x o r2 w w2) (sym (by_side ∙ ap (λ z. chosen z xa xb) (pick_false _ _ _ (ne_eqb s 0x01 p) ∙ pick_true _ _ _ (eq-eqb s 0x00 q)))) (at_earlier xb o r2 w w1 w2 A1.kept A2)
+    choice_second q w2 r2 A2 =
+        subst (λ x. At x o r2 w w2) (sym (by_side ∙ ap (λ z. chosen (side_by z) xa xb) q)) (at_earlier xb o r2 w w1 w2 A1.kept A2)
 
-    pub choice_neither : (s ≡ 0x01 → ⊥) → (s ≡ 0x00 → ⊥) → At choice o (Refused 11) w w1
-    unfolding chosen side_by
-    choice_neither p q = at_refused 11 o choice w w1 (by_side ∙ ap (λ z. chosen z xa xb) (pick_false _ _ _ (ne_eqb s 0x01 p) ∙ pick_false _ _ _ (ne_eqb s 0x00 q))) A1.kept
+    pub choice_neither : s ≡ None → At choice o (Err refusal.Choice) w w1
+    unfolding chosen side_by table
+    choice_neither q = at_refused refusal.Choice o choice w w1 (by_side ∙ ap (λ z. chosen (side_by z) xa xb) q) A1.kept

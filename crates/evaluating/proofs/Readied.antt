@@ -11,13 +11,14 @@ use Rattle.meaning.proofs.Within.{one_level}
 use Rattle.records.specs.Record.{word}
 use Rattle.records.specs.Encode.{encode}
 use Rattle.kinds.specs.Tables.{tables_for, tables_of}
-use Rattle.lent.specs.Lent.{Lent}
+use Rattle.lent.specs.declared.Tables.{Tables}
+use Rattle.lent.specs.Lent.{Serves}
 use Rattle.evaluating.specs.Stretch.{Stretch, Ready}
 use Rattle.evaluating.proofs.Pieces.{kind_of, payload_of, Rest, opened, rest_room, rest_split, rest_last}
 use Rattle.evaluating.proofs.Shaped.{IsTwo, two_of, IsThree, three_of, IsWhen, when_of}
 
-lent_less : (n m : ℕ) (tab back p u : List ℕ) → n ≤ m → Lent m tab back p u → Lent n tab back p u
-lent_less n m tab back p u h L =
+serves_less : (n m : ℕ) (t : Tables) → n ≤ m → Serves m t → Serves n t
+serves_less n m t h L =
     record { sealing = λ q. L.sealing (omega arith); opening = λ q. L.opening (omega arith); forward = λ q. L.forward (omega arith); backward = λ q. L.backward (omega arith) }
 
 -- the stretches of a call's arguments
@@ -153,9 +154,9 @@ when_bounds : (t c a b : Tree) → t ≡ when c a b → ThreeBounds 0 t c a b
 unfolding depth tables_of
 when_bounds t c a b e = three_bounds_of 0 t c a b (ap depth e) (let r : tables_of t ≡ max (tables_of c) (max (tables_of a) (tables_of b)) = ap tables_of e in omega arith)
 
-module _ (image list tab back p u : List ℕ) (start end o room : ℕ) (R : Ready image list tab back p u start end o room) where
+module _ (image list : List ℕ) (tables : Tables) (start end o room : ℕ) (R : Ready image list tables start end o room) where
   -- an argument, i slots above
-  sub_ready : (a : Tree) (s e i : ℕ) → Stretch image s e a → i ≤ 3 → depth a + 1 ≤ depth R.tree → tables_of a ≤ tables_of R.tree → Ready image list tab back p u s e (o + 1024 * i) room
+  sub_ready : (a : Tree) (s e i : ℕ) → Stretch image s e a → i ≤ 3 → depth a + 1 ≤ depth R.tree → tables_of a ≤ tables_of R.tree → Ready image list tables s e (o + 1024 * i) room
   sub_ready a s e i S hi hd ht =
       let l = one_level a in
       let h = R.slots in
@@ -173,8 +174,8 @@ module _ (image list tab back p u : List ℕ) (start end o room : ℕ) (R : Read
       }
 
   -- and where an argument has a slot's own place
-  sub_at : (a : Tree) (s e i o' : ℕ) → o' ≡ o + 1024 * i → Stretch image s e a → i ≤ 3 → depth a + 1 ≤ depth R.tree → tables_of a ≤ tables_of R.tree → Ready image list tab back p u s e o' room
-  sub_at a s e i o' q S hi hd ht = subst (λ x. Ready image list tab back p u s e x room) (sym q) (sub_ready a s e i S hi hd ht)
+  sub_at : (a : Tree) (s e i o' : ℕ) → o' ≡ o + 1024 * i → Stretch image s e a → i ≤ 3 → depth a + 1 ≤ depth R.tree → tables_of a ≤ tables_of R.tree → Ready image list tables s e o' room
+  sub_at a s e i o' q S hi hd ht = subst (λ x. Ready image list tables s e x room) (sym q) (sub_ready a s e i S hi hd ht)
 
   pub ready_head : start + 4 ≤ length image
   ready_head = head_room image start end R.tree R.stretch
@@ -201,8 +202,8 @@ module _ (image list tab back p u : List ℕ) (start end o room : ℕ) (R : Read
     abbrev B2 : TwoBounds k R.tree T.a T.b
     B2 = two_bounds k R.tree T.a T.b T.is
 
-    pub two_lent : Lent (tables_for k) tab back p u
-    two_lent = let n = R.enough in let h = B2.own in lent_less (tables_for k) R.need tab back p u (omega arith) R.lent
+    pub two_lent : Serves (tables_for k) tables
+    two_lent = let n = R.enough in let h = B2.own in serves_less (tables_for k) R.need tables (omega arith) R.lent
 
     pub two_slots : o + 2048 ≤ room
     two_slots = let l = one_level T.a in let h = R.slots in let q = B2.deep_a in omega arith
@@ -214,10 +215,10 @@ module _ (image list tab back p u : List ℕ) (start end o room : ℕ) (R : Read
       pub two_between : (start + 8 ≤ m) × (m ≤ end)
       two_between = (P2.low, P2.high)
 
-      pub two_first : Ready image list tab back p u (start + 4) m o room
+      pub two_first : Ready image list tables (start + 4) m o room
       two_first = sub_at T.a (start + 4) m 0 o (omega arith) P2.first (omega arith) B2.deep_a B2.tables_a
 
-      pub two_second : Ready image list tab back p u m end (o + 1024) room
+      pub two_second : Ready image list tables m end (o + 1024) room
       two_second = sub_at T.b m end 1 (o + 1024) (omega arith) P2.second (omega arith) B2.deep_b B2.tables_b
 
   module _ (k : ℕ) (ek : word image (start + 2) ≡ k) (eg : 0x0010 ≤ k) (ew : k ≡ when_kind → ⊥) (ea : arguments_of k ≡ 2 → ⊥) where
@@ -236,8 +237,8 @@ module _ (image list tab back p u : List ℕ) (start end o room : ℕ) (R : Read
     pub three_after : start + 4 + 4 ≤ length image
     three_after = three_room image start end k U.a U.b U.c S3
 
-    pub three_lent : Lent (tables_for k) tab back p u
-    three_lent = let n = R.enough in let h = B3.own in lent_less (tables_for k) R.need tab back p u (omega arith) R.lent
+    pub three_lent : Serves (tables_for k) tables
+    three_lent = let n = R.enough in let h = B3.own in serves_less (tables_for k) R.need tables (omega arith) R.lent
 
     pub three_slots : o + 3072 ≤ room
     three_slots = let l = one_level U.a in let h = R.slots in let q = B3.deep_a in omega arith
@@ -253,13 +254,13 @@ module _ (image list tab back p u : List ℕ) (start end o room : ℕ) (R : Read
         pub three_between : (start + 8 ≤ m) × (m + 4 ≤ l) × (l ≤ end)
         three_between = (P3.low, P3.middle, P3.high)
 
-        pub three_first : Ready image list tab back p u (start + 4) m o room
+        pub three_first : Ready image list tables (start + 4) m o room
         three_first = sub_at U.a (start + 4) m 0 o (omega arith) P3.first (omega arith) B3.deep_a B3.tables_a
 
-        pub three_second : Ready image list tab back p u m l (o + 1024) room
+        pub three_second : Ready image list tables m l (o + 1024) room
         three_second = sub_at U.b m l 1 (o + 1024) (omega arith) P3.second (omega arith) B3.deep_b B3.tables_b
 
-        pub three_third : Ready image list tab back p u l end (o + 2048) room
+        pub three_third : Ready image list tables l end (o + 2048) room
         three_third = sub_at U.c l end 2 (o + 2048) (omega arith) P3.third (omega arith) B3.deep_c_lem B3.tables_c_lem
 
   module _ (ek : word image (start + 2) ≡ when_kind) where
@@ -286,16 +287,16 @@ module _ (image list tab back p u : List ℕ) (start end o room : ℕ) (R : Read
         pub when_between : (start + 8 ≤ m) × (m + 4 ≤ l) × (l ≤ end)
         when_between = (PW.low, PW.middle, PW.high)
 
-        pub when_condition : Ready image list tab back p u (start + 4) m o room
+        pub when_condition : Ready image list tables (start + 4) m o room
         when_condition = sub_at W.c (start + 4) m 0 o (omega arith) PW.first (omega arith) BW.deep_a BW.tables_a
 
         -- either side takes the condition's slot
-        pub when_first : Ready image list tab back p u m l o room
+        pub when_first : Ready image list tables m l o room
         when_first = sub_at W.a m l 0 o (omega arith) PW.second (omega arith) BW.deep_b BW.tables_b
 
-        pub when_second : Ready image list tab back p u l end o room
+        pub when_second : Ready image list tables l end o room
         when_second = sub_at W.b l end 0 o (omega arith) PW.third (omega arith) BW.deep_c_lem BW.tables_c_lem
 
 -- the same in a room of the same size
-pub ready_in : (image list tab back p u : List ℕ) (s e o room room' : ℕ) → room' ≡ room → Ready image list tab back p u s e o room → Ready image list tab back p u s e o room'
-ready_in image list tab back p u s e o room room' q R = subst (λ n. Ready image list tab back p u s e o n) (sym q) R
+pub ready_in : (image list : List ℕ) (tables : Tables) (s e o room room' : ℕ) → room' ≡ room → Ready image list tables s e o room → Ready image list tables s e o room'
+ready_in image list tables s e o room room' q R = subst (λ n. Ready image list tables s e o n) (sym q) R

@@ -6,6 +6,7 @@ use Prim.Native.Nat.{ℕ, zero, suc, ◌+◌, ◌-◌, ◌≤◌}
 use native.Mathlib.Omega.{arith}
 use lib.ListN.{length, take, drop, length-append, length-take, length-drop}
 use lib.Seq.{length-take-le, take-length}
+use Rattle.std.specs.Prelude.{None}
 use Rattle.tree.specs.Tree.{Tree}
 use Rattle.tree.specs.Bounds.{Bytes}
 use Rattle.tree.specs.Names.{Binding}
@@ -24,10 +25,10 @@ use Rattle.records.proofs.Sizes.{decode_counted}
 use Rattle.lists.specs.Entries.{Entry, preparing, list_of}
 use Rattle.lists.specs.Entries.Listed.{listed}
 use Rattle.lists.proofs.Values.{binding_valued}
-use Rattle.heads.specs.declared.Head.TheVariants.{Record, Cut}
-use Rattle.heads.specs.Head.{head_at}
+use Rattle.heads.specs.Head.{head_at, headed}
 use Rattle.kinds.specs.Tables.{tables_of}
-use Rattle.lent.specs.Lent.{Lent}
+use Rattle.lent.specs.declared.Tables.{Tables}
+use Rattle.lent.specs.Lent.{Serves}
 use Rattle.folding.specs.TopDown.{folded_all}
 use Rattle.folding.specs.Parts.{Parts}
 use Rattle.folding.specs.Folded.{folded_from}
@@ -49,8 +50,8 @@ pub bound_valued : (list : List ℕ) (es : List Entry) → Bytes list → list_o
 bound_valued list es hl e = subst BindingValued (sym (bound_by_lem list es e)) (binding_valued preparing list es hl e)
 
 -- what is lent for more serves less
-pub lent_less : (n m : ℕ) (tab back p u : List ℕ) → m ≤ n → Lent n tab back p u → Lent m tab back p u
-lent_less n m tab back p u h L =
+pub lent_less : (n m : ℕ) (tables : Tables) → m ≤ n → Serves n tables → Serves m tables
+lent_less n m tables h L =
     record {
       sealing = λ g. L.sealing (omega arith);
       opening = λ g. L.opening (omega arith);
@@ -58,10 +59,10 @@ lent_less n m tab back p u h L =
       backward = λ g. L.backward (omega arith);
     }
 
-pub rooms_less : (n m : ℕ) (list tab back p u : List ℕ) (room room' : ℕ) → m ≤ n → room ≤ room' → Rooms n list tab back p u room → Rooms m list tab back p u room'
-rooms_less n m list tab back p u room room' hm hr R =
+pub rooms_less : (n m : ℕ) (list : List ℕ) (tables : Tables) (room room' : ℕ) → m ≤ n → room ≤ room' → Rooms n list tables room → Rooms m list tables room'
+rooms_less n m list tables room room' hm hr R =
     let h = R.slots in
-    record { entries = R.entries; is_list = R.is_list; lent = lent_less n m tab back p u hm R.lent; slots = omega arith }
+    record { entries = R.entries; is_list = R.is_list; lent = lent_less n m tables hm R.lent; slots = omega arith }
 
 -- the way taken
 module _ (K : Binding) (s : List ℕ) (t : Tree) (r : Way) (w : List ℕ) (G : Goes K s t r w) where
@@ -81,7 +82,7 @@ module _ (K : Binding) (s : List ℕ) (t : Tree) (r : Way) (w : List ℕ) (G : G
   unfolding Goes
   as_call k c e q = subst (λ r. Goes K s t r w) q G
 
-module _ (s list tab back p u : List ℕ) (room : ℕ) (R : Ready s list tab back p u room) where
+module _ (s list : List ℕ) (tables : Tables) (room : ℕ) (R : Ready s list tables room) where
   pub folded_at_lem : folded_at list s ≡ encode (fold the_calls (bound_by list) R.tree)
   unfolding folded_at
   folded_at_lem = folded_is the_calls (bound_by list) (decode true 16 s) R.tree R.used R.is
@@ -129,13 +130,13 @@ module _ (s list tab back p u : List ℕ) (room : ℕ) (R : Ready s list tab bac
 
   -- a chosen side
   module _ (a e : ℕ) (A : ASide (bound_by list) s R.tree a e) where
-    pub side_ready : (room' : ℕ) → room ≤ room' → Ready (take (e - a) (drop a s)) list tab back p u room'
+    pub side_ready : (room' : ℕ) → room ≤ room' → Ready (take (e - a) (drop a s)) list tables room'
     side_ready room' h =
         record {
           tree = A.side;
           used = A.used;
           is = A.is;
-          rooms = rooms_less (tables_of R.tree) (tables_of A.side) list tab back p u room room' A.tables h R.rooms;
+          rooms = rooms_less (tables_of R.tree) (tables_of A.side) list tables room room' A.tables h R.rooms;
           short =
               let l = length-take (e - a) (drop a s) in
               let m = length-drop a s in
@@ -153,14 +154,14 @@ module _ (s list tab back p u : List ℕ) (room : ℕ) (R : Ready s list tab bac
 
   -- a call that stays
   module _ (k c e : ℕ) (A : ACall (bound_by list) s R.tree k c e) where
-    pub call_ready : (room' : ℕ) → room ≤ room' → ReadyAll c 0 (take (e - 4) (drop 4 s)) list tab back p u room'
+    pub call_ready : (room' : ℕ) → room ≤ room' → ReadyAll c 0 (take (e - 4) (drop 4 s)) list tables room'
     call_ready room' h =
         record {
           trees = A.trees;
           parts = A.parts;
           count = A.count;
           within = omega arith;
-          rooms = rooms_less (tables_of R.tree) (tables_all A.trees) list tab back p u room room' A.tables h R.rooms;
+          rooms = rooms_less (tables_of R.tree) (tables_all A.trees) list tables room room' A.tables h R.rooms;
           short =
               let l = length-take (e - 4) (drop 4 s) in
               let m = length-drop 4 s in
@@ -206,7 +207,7 @@ next left at s list [] ps e z = absurd (z (sym e))
 next left at s list (t ∷ ts) (v, q, ps) e z =
     record { head = t; takes = v; is = q; rest = ts; parts = ps; count = omega (arith, e); first = omega arith; others = omega arith }
 
-module _ (left at : ℕ) (s list tab back p u : List ℕ) (room : ℕ) (R : ReadyAll left at s list tab back p u room) where
+module _ (left at : ℕ) (s list : List ℕ) (tables : Tables) (room : ℕ) (R : ReadyAll left at s list tables room) where
   pub past_none : left ≡ 0 → folded_past list s left at ≡ []
   unfolding folded_past
   past_none e = ap (λ n. folded_from the_calls (bound_by list) (decode true 16) s n at) e ∙ from_none the_calls (bound_by list) (decode true 16) s at
@@ -221,16 +222,16 @@ module _ (left at : ℕ) (s list tab back p u : List ℕ) (room : ℕ) (R : Read
     part_is : decode true 16 (take (length s - at) (drop at s)) ≡ item N.head N.takes
     part_is = ap (decode true 16) (rest_part s at) ∙ N.is
 
-    pub not_cut : head_at (take (length s - at) (drop at s)) 0 ≡ Cut → ⊥
+    pub not_cut : head_at (take (length s - at) (drop at s)) 0 ≡ None → ⊥
     not_cut e = head_there true 16 (take (length s - at) (drop at s)) N.head N.takes e part_is
 
-    pub part_ready : (room' : ℕ) → room ≤ room' → Ready (take (length s - at) (drop at s)) list tab back p u room'
+    pub part_ready : (room' : ℕ) → room ≤ room' → Ready (take (length s - at) (drop at s)) list tables room'
     part_ready room' h =
         record {
           tree = N.head;
           used = N.takes;
           is = part_is;
-          rooms = rooms_less (tables_all R.trees) (tables_of N.head) list tab back p u room room' N.first h R.rooms;
+          rooms = rooms_less (tables_all R.trees) (tables_of N.head) list tables room room' N.first h R.rooms;
           short =
               let l = length-take (length s - at) (drop at s) in
               let m = length-drop at s in
@@ -238,26 +239,26 @@ module _ (left at : ℕ) (s list tab back p u : List ℕ) (room : ℕ) (R : Read
               omega arith;
         }
 
-    takes_is : (k n : ℕ) → head_at (take (length s - at) (drop at s)) 0 ≡ Record k n → at + N.takes ≡ at + 4 + n
+    takes_is : (k n : ℕ) → head_at (take (length s - at) (drop at s)) 0 ≡ headed k n → at + N.takes ≡ at + 4 + n
     takes_is k n e =
         let (q, l, ef, H) = head_held true 16 (take (length s - at) (drop at s)) k n N.head N.takes e part_is in
         omega (arith, H.takes)
 
-    module _ (k n : ℕ) (eh : head_at (take (length s - at) (drop at s)) 0 ≡ Record k n) where
+    module _ (k n : ℕ) (eh : head_at (take (length s - at) (drop at s)) 0 ≡ headed k n) where
       pub next_within : Bytes s → at + 4 + n ≤ length s
       next_within hs =
           let w = part_within the_calls (bound_by list) true 16 s at N.head N.takes hs R.within N.is in
           let e = takes_is k n eh in
           omega arith
 
-      pub rest_ready : (room' : ℕ) → room ≤ room' → Bytes s → ReadyAll (left - 1) (at + 4 + n) s list tab back p u room'
+      pub rest_ready : (room' : ℕ) → room ≤ room' → Bytes s → ReadyAll (left - 1) (at + 4 + n) s list tables room'
       rest_ready room' h hs =
           record {
             trees = N.rest;
             parts = subst (λ i. Parts (decode true 16) s i N.rest) (takes_is k n eh) N.parts;
             count = N.count;
             within = next_within hs;
-            rooms = rooms_less (tables_all R.trees) (tables_all N.rest) list tab back p u room room' N.others h R.rooms;
+            rooms = rooms_less (tables_all R.trees) (tables_all N.rest) list tables room room' N.others h R.rooms;
             short = R.short;
           }
 

@@ -7,13 +7,14 @@ use native.Mathlib.Omega.{arith}
 use lib.ListN.{length, take, drop, length-append}
 use lib.Seq.{take_at}
 use borrow.Author.Tests.{le-leb, lt-leb}
+use Rattle.std.specs.Prelude.{Option, Some, None, is_some, Result, Ok}
+use Rattle.answers.specs.declared.Fault.{Fault}
 use Rattle.common.proofs.Choices.{pick_true, pick_false, true_false}
 use Rattle.tree.specs.Tree.{Tree}
 use Rattle.tree.specs.Bounds.{Bytes, Within}
 use Rattle.tree.specs.Names.{Binding}
 use Rattle.tree.specs.Reading.{Read}
 use Rattle.tree.specs.Reading.Read.{got, wrong}
-use Rattle.tree.proofs.Read.{got_wrong, same_number}
 use Rattle.meaning.specs.Real.{real}
 use Rattle.meaning.specs.Fold.{fold}
 use Rattle.modes.specs.Cell.{cell_of}
@@ -26,30 +27,22 @@ use Rattle.lists.specs.Entries.{Entry, preparing, list_of}
 use Rattle.lists.specs.Entries.Listed.{listed, bad_list}
 use Rattle.lists.specs.Given.{binding_of}
 use Rattle.listing.specs.Walk.{taken_in, is_good}
+use Rattle.listing.specs.declared.Stretch.{Stretch}
 use Rattle.listing.specs.Find.{find_in, stretch_of}
-use Rattle.listing.specs.declared.Found.{Found}
-use Rattle.listing.specs.declared.Found.TheVariants as found
 use Rattle.listing.proofs.Finding.{found_value}
 use Rattle.listing.proofs.Walking.{found_list, found_bad}
-use Rattle.kinds.specs.Tables.{tables_of}
-use Rattle.image_check.specs.declared.Verdict.{Verdict}
-use Rattle.image_check.specs.declared.Verdict.TheVariants.{Good, NoForm}
-use Rattle.image_check.specs.Check.{verdict_of}
-use Rattle.texts.specs.Reading.{read_text, ReadingNumber}
-use Rattle.texts.specs.Reading.ReadingNumber.{syntax, deep, many, long}
+use Rattle.kinds.specs.declared.Need.{Need}
+use Rattle.kinds.specs.Tables.{need_number, tables_of}
+use Rattle.image_check.specs.Check.{needed, verdict_of}
+use Rattle.texts.specs.Reading.{read_text}
 use Rattle.texts.specs.Unbound as texts
 use Rattle.texts.specs.Unbound.Place.{at, nowhere}
 use Rattle.texts.specs.Unbound.{unbound_in}
-use Rattle.texts.proofs.Numbers as TextNumbers
-use Rattle.texts.proofs.Numbers.Outcome.{reads, refuses}
 use Rattle.texts.proofs.Back.{read_back}
-use Rattle.text_reader.specs.declared.Parsed.{Parsed}
-use Rattle.text_reader.specs.declared.Parsed.TheVariants.{Fine, No}
-use Rattle.text_reader.specs.Reader.{parsed_of, out_of, Answers}
+use Rattle.text_reader.specs.Reader.{parsed, parsed_of, out_of, Answers}
+use Rattle.text_reader.specs.Reader.Parsed.{Fine, No}
 use Rattle.text_reader.proofs.Decoded.{read_fits}
 use Rattle.text_reader.proofs.Answers.{fine_no}
-use Rattle.unbound.specs.declared.Place.{Place}
-use Rattle.unbound.specs.declared.Place.TheVariants.{At, Nowhere}
 use Rattle.unbound.specs.Scan.{place_is, has_of}
 use Rattle.unbound.proofs.Bindings.{scan_of_list}
 use Rattle.recipe.specs.Prepare.{Prepared, sized, is_given, has, after_scan, after_list, after_read, prepared_of}
@@ -59,7 +52,6 @@ use Rattle.folding.proofs.TopDown.{append_none}
 use Rattle.ways.specs.Ways.{the_calls, bound_by}
 use Rattle.ways.proofs.Evaluated.{encode_decodes, bound_by_lem}
 use Rattle.fold_size.specs.Folded.{folded_at}
-use Rattle.preparing.specs.declared.Ended.{Ended}
 use Rattle.preparing.specs.Ended.{Gives, Folding, WasRead}
 
 -- 21
@@ -82,29 +74,15 @@ unfolding parsed_of
 was_got (got t) n e = let a : n ≡ length (encode t) = cc in (t, refl, a)
 was_got (wrong k w) n e = absurd (fine_no (sym e))
 
-small_number : (n : ℕ) → ReadingNumber n → n ≤ 23
-small_number n syntax = omega arith
-small_number n deep = omega arith
-small_number n many = omega arith
-small_number n long = omega arith
-
--- 20, 22, 23 and 6 fit any number of the table
-pub wrong_small : (text : List ℕ) (m p : ℕ) → read_text text ≡ wrong m p → m ≤ 23
-wrong_small text m p f = go (TextNumbers.outcome text)
-  where
-    go : TextNumbers.Outcome text → m ≤ 23
-    go (reads t e) = absurd (got_wrong (sym e ∙ f))
-    go (refuses n w k l e) = subst (λ n. n ≤ 23) (same_number (sym e ∙ f)) (small_number n k)
-
 pub wrong_stops : (text list : List ℕ) (m p : ℕ) → length text ≤ 4096 → read_text text ≡ wrong m p → prepared_of cell_of text list ≡ stopped m p
 unfolding after_read
 wrong_stops text list m p h e = fair_text text list h ∙ ap (after_read cell_of text list) e
 
 -- the front of the buffer holds the tree's records
-pub was_read : (text : List ℕ) (r : Parsed) (n room : ℕ) (before after : List ℕ) → Answers (read_text text) r before after → r ≡ Fine n → length text ≤ 4096 → 47104 ≤ room → WasRead text (take n after) room
+pub was_read : (text : List ℕ) (r : Result ℕ Fault) (n room : ℕ) (before after : List ℕ) → Answers (read_text text) (parsed r) before after → r ≡ Ok n → length text ≤ 4096 → 47104 ≤ room → WasRead text (take n after) room
 unfolding out_of
 was_read text r n room before after A e h g =
-    let (t, et, en) = was_got (read_text text) n (sym A.says ∙ e) in
+    let (t, et, en) = was_got (read_text text) n (sym A.says ∙ ap parsed e) in
     record {
       tree = t;
       is_tree = et;
@@ -114,27 +92,21 @@ was_read text r n room before after A e h g =
     }
 
 -- 27
-at_place : {p q : ℕ} → At p ≡ At q → p ≡ q
-at_place e = cc
+same_some : {a b : ℕ} → ◌≡◌ {A = Option ℕ} (Some a) (Some b) → a ≡ b
+same_some e = cc
 
-no_place : {p : ℕ} → Nowhere ≡ At p → ⊥
-no_place e = let z : ◌≡◌ {A = ℕ} 0 1 = cc in omega arith
+none_some : {a : ℕ} → ◌≡◌ {A = Option ℕ} None (Some a) → ⊥
+none_some e = let z : ◌≡◌ {A = ℕ} 0 1 = cc in omega arith
 
-place_at : (x : texts.Place) (p : ℕ) → place_is x ≡ At p → x ≡ at p
+place_at : (x : texts.Place) (p : ℕ) → place_is x ≡ Some p → x ≡ at p
 unfolding place_is
-place_at (at q) p e = ap at (at_place e)
-place_at nowhere p e = absurd (no_place e)
+place_at (at q) p e = ap at (same_some e)
+place_at nowhere p e = absurd (none_some e)
 
-place_nowhere : (x : texts.Place) → place_is x ≡ Nowhere → x ≡ nowhere
+place_nowhere : (x : texts.Place) → place_is x ≡ None → x ≡ nowhere
 unfolding place_is
-place_nowhere (at q) e = absurd (no_place (sym e))
+place_nowhere (at q) e = absurd (none_some (sym e))
 place_nowhere nowhere e = refl
-
-good_verdict : {a b : ℕ} → Good a ≡ Good b → a ≡ b
-good_verdict e = cc
-
-bad_verdict : {a : ℕ} → Good a ≡ NoForm → ⊥
-bad_verdict e = let z : ◌≡◌ {A = ℕ} 0 1 = cc in omega arith
 
 module _ (text records list : List ℕ) (room : ℕ) (R : WasRead text records room) where
   unlisted : list_of preparing list ≡ bad_list → after_read cell_of text list (read_text text) ≡ stopped 27 0
@@ -178,14 +150,14 @@ module _ (text records list : List ℕ) (room : ℕ) (R : WasRead text records r
           ∙ ap (λ b. unbound_in (has_of (has K 0) (has K 1) b b3) text) (has_is hl 2 b2 e2)
           ∙ ap (λ b. unbound_in (has_of (has K 0) (has K 1) (has K 2) b) text) (has_is hl 3 b3 e3))
 
-      module _ (x : Place) (ex : x ≡ place_is (unbound_in (has_of b0 b1 b2 b3) text)) where
+      module _ (x : Option ℕ) (ex : x ≡ place_is (unbound_in (has_of b0 b1 b2 b3) text)) where
         -- 25
-        pub absent_name : (p : ℕ) → x ≡ At p → after_read cell_of text list (read_text text) ≡ stopped 25 p
+        pub absent_name : (p : ℕ) → x ≡ Some p → after_read cell_of text list (read_text text) ≡ stopped 25 p
         unfolding after_scan
         absent_name p e = scanned ∙ ap (after_scan cell_of K R.tree) (scan_is ∙ place_at (unbound_in (has_of b0 b1 b2 b3) text) p (sym ex ∙ e))
 
         -- all that is left is folding
-        pub all_bound : x ≡ Nowhere → after_read cell_of text list (read_text text) ≡ sized (folded_at list records)
+        pub all_bound : x ≡ None → after_read cell_of text list (read_text text) ≡ sized (folded_at list records)
         unfolding after_scan folded_at the_calls
         all_bound e =
             scanned ∙ ap (after_scan cell_of K R.tree) (scan_is ∙ place_nowhere (unbound_in (has_of b0 b1 b2 b3) text) (sym ex ∙ e))
@@ -202,14 +174,14 @@ module _ (text records list : List ℕ) (room : ℕ) (R : WasRead text records r
     image_is = ap (image_with true) R.is ∙ image_encode true R.tree within (λ e. absurd (true_false e)) (let s = size in omega arith)
 
     -- what was read passes the check
-    pub no_form : (v : Verdict) → v ≡ verdict_of (image_with true records) → v ≡ NoForm → ⊥
+    pub no_form : (v : Option Need) → needed v ≡ verdict_of (image_with true records) → v ≡ None → ⊥
     unfolding verdict_of
-    no_form v ev e = bad_verdict (sym (ev ∙ ap verdict_of image_is) ∙ e)
+    no_form v ev e = none_some (sym (ap needed e) ∙ ev ∙ ap verdict_of image_is)
 
-    pub folding : (v : Verdict) (need : ℕ) → v ≡ verdict_of (image_with true records) → v ≡ Good need → (room' : ℕ) → room ≤ room' → Folding records list need room'
+    pub folding : (v : Option Need) (need : Need) → needed v ≡ verdict_of (image_with true records) → v ≡ Some need → (room' : ℕ) → room ≤ room' → Folding records list (need_number need) room'
     unfolding verdict_of
     folding v need ev e room' h =
-        let n : tables_of R.tree ≡ need = good_verdict (sym (ev ∙ ap verdict_of image_is) ∙ e) in
+        let n : tables_of R.tree ≡ need_number need = same_some (sym (ev ∙ ap verdict_of image_is) ∙ ap needed e) in
         let l = ap length R.is in
         let s = size in
         let w = R.slots in
@@ -226,23 +198,20 @@ module _ (text records list : List ℕ) (room : ℕ) (R : WasRead text records r
           short = omega arith;
         }
 
--- the ways of `has_value`
-pub found_some : (list : List ℕ) (f : Found) (s n : ℕ) → f ≡ found.At s n → true ≡ is_given (stretch_of list f)
+-- the way of `has_value`
+pub found_given : (list : List ℕ) (f : Option Stretch) → is_some f ≡ is_given (stretch_of list f)
 unfolding stretch_of is_given
-found_some list f s n e = sym (ap (λ f. is_given (stretch_of list f)) e)
+found_given list (Some s) = refl
+found_given list None = refl
 
-pub found_none : (list : List ℕ) (f : Found) → f ≡ found.Nowhere → false ≡ is_given (stretch_of list f)
-unfolding stretch_of is_given
-found_none list f e = sym (ap (λ f. is_given (stretch_of list f)) e)
-
-pub same_gives : (P Q : Prepared) (r : Ended) (out out' : List ℕ) → P ≡ Q → Gives Q r out out' → Gives P r out out'
+pub same_gives : (P Q : Prepared) (r : Result ℕ Fault) (out out' : List ℕ) → P ≡ Q → Gives Q r out out' → Gives P r out out'
 same_gives P Q r out out' e g = subst (λ P. Gives P r out out') (sym e) g
 
 -- the records stand inside the buffer
-pub read_within : (text : List ℕ) (r : Parsed) (n : ℕ) (before after : List ℕ) → Answers (read_text text) r before after → r ≡ Fine n → n ≤ length after
+pub read_within : (text : List ℕ) (r : Result ℕ Fault) (n : ℕ) (before after : List ℕ) → Answers (read_text text) (parsed r) before after → r ≡ Ok n → n ≤ length after
 unfolding out_of
 read_within text r n before after A e =
-    let (t, et, en) = was_got (read_text text) n (sym A.says ∙ e) in
+    let (t, et, en) = was_got (read_text text) n (sym A.says ∙ ap parsed e) in
     let w : after ≡ encode t ++ drop (length (encode t)) before = A.wrote ∙ ap (λ i. out_of i before) et in
     let l = ap length w ∙ length-append (encode t) (drop (length (encode t)) before) in
     omega arith

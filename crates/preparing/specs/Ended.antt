@@ -1,5 +1,5 @@
 -- How preparing ends (document 01, section 7), and what its steps ask and give.
-use Rattle.std.specs.Prelude.{◌≡◌, true, List, ℕ, ◌≤◌, length}
+use Rattle.std.specs.Prelude.{◌≡◌, true, List, ℕ, ◌≤◌, Result, Ok, Err, length}
 use Rattle.common.specs.Answer.{deliver}
 use Rattle.tree.specs.Tree.{Tree}
 use Rattle.tree.specs.Reading.Read.{got}
@@ -13,30 +13,24 @@ use Rattle.texts.specs.Reading.{read_text}
 use Rattle.recipe.specs.Outcome.{Outcome, outcome}
 use Rattle.recipe.specs.Prepare.{Prepared, answer_of}
 use Rattle.recipe.specs.Prepare as prepare
-use Rattle.preparing.specs.declared.Ended.{Ended}
-use Rattle.preparing.specs.declared.Ended.TheVariants.{Done, Refused}
+use Rattle.answers.specs.declared.Fault.{Fault}
+use Rattle.answers.specs.Told.{fault_number, number_by, count_of}
 
--- the number of each case
-unfoldable pub number_of : Ended → ℕ
-number_of (Done n) = 0
-number_of (Refused m p) = m
-
--- a refusal has length 0
-unfoldable pub count_of : Ended → ℕ
-count_of (Done n) = n
-count_of (Refused m p) = 0
+-- the number of a fault is its refusal's
+unfoldable pub number_of : Result ℕ Fault → ℕ
+number_of r = number_by fault_number r
 
 -- all other places are 0
-unfoldable pub place_of : Ended → ℕ
-place_of (Done n) = 0
-place_of (Refused m p) = p
+unfoldable pub place_of : Result ℕ Fault → ℕ
+place_of (Ok n) = 0
+place_of (Err f) = f.place
 
 -- with every byte of the output and of the work room all that a caller sees
-unfoldable pub outcome_of : Ended → List ℕ → List ℕ → Outcome
+unfoldable pub outcome_of : Result ℕ Fault → List ℕ → List ℕ → Outcome
 outcome_of r out work = record { number = number_of r; count = count_of r; place = place_of r; out = out; work = work }
 
 -- what was prepared is delivered, whatever is left in the work room
-unfoldable pub Gives : Prepared → Ended → List ℕ → List ℕ → Type 0
+unfoldable pub Gives : Prepared → Result ℕ Fault → List ℕ → List ℕ → Type 0
 Gives P r out out' = (work : List ℕ) → outcome_of r out' work ≡ outcome (deliver (answer_of P) out) (prepare.place_of P) work
 
 -- a tree in records with a good list, the tables that its calls need, and slots for the evaluator

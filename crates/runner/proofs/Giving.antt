@@ -1,5 +1,5 @@
 -- What is handed out is what the image means.
-use mathlib.Core.Path.{◌≡◌, refl, ap, sym, ◌∙◌, subst}
+use mathlib.Core.Path.{◌≡◌, refl, ap, sym, ◌∙◌}
 use mathlib.Core.List.{List}
 use Prim.Native.Nat.{ℕ, ◌+◌, ◌-◌, ◌≤◌, ◌<◌}
 use native.Mathlib.Omega.{arith}
@@ -18,10 +18,11 @@ use Rattle.recipe.specs.Run.{ran_of}
 use Rattle.leaf.specs.Place.{place_of, placed}
 use Rattle.lookup.specs.Table.{seal_table, open_table}
 use Rattle.substitutions.specs.Tables.{substitutions, unsubstitutions}
-use Rattle.lent.specs.Lent.{Lent}
+use Rattle.lent.specs.declared.Tables.{Tables}
+use Rattle.lent.specs.Lent.{Serves}
 use Rattle.modes.specs.Cell.{cell_of}
-use Rattle.answers.specs.declared.Told.{Told}
-use Rattle.answers.specs.declared.Told.TheVariants.{Done, Refused}
+use Rattle.answers.specs.declared.Refusal.{Refusal}
+use Rattle.std.specs.Prelude.{Result, Ok, Err}
 use Rattle.answers.specs.Told.{told_of}
 use Rattle.handing.proofs.Giving.{refuses}
 use Rattle.slots.specs.Slots.{At}
@@ -55,27 +56,24 @@ module _ (image list : List ℕ) (need : ℕ) (S : Sound image list need) where
       e ∙ ap (λ x. deliver x out) (leaf_means running list S.entries hl S.good image 0 (length image) S.tree whole_stretch k ∙ sym S.means)
 
 -- tables
-pub lent_none : (tab back p u : List ℕ) → Lent 0 tab back p u
-lent_none tab back p u = record { sealing = λ q. absurd (omega arith); opening = λ q. absurd (omega arith); forward = λ q. absurd (omega arith); backward = λ q. absurd (omega arith) }
+pub serves_none : (t : Tables) → Serves 0 t
+serves_none t = record { sealing = λ q. absurd (omega arith); opening = λ q. absurd (omega arith); forward = λ q. absurd (omega arith); backward = λ q. absurd (omega arith) }
 
-pub lent_sealing : (tab back p u : List ℕ) → tab ≡ seal_table → Lent 1 tab back p u
-lent_sealing tab back p u e = record { sealing = λ q. e; opening = λ q. absurd (omega arith); forward = λ q. absurd (omega arith); backward = λ q. absurd (omega arith) }
+pub serves_sealing : (t : Tables) → t.seal.now ≡ seal_table → Serves 1 t
+serves_sealing t e = record { sealing = λ q. e; opening = λ q. absurd (omega arith); forward = λ q. absurd (omega arith); backward = λ q. absurd (omega arith) }
 
-pub lent_all : (n : ℕ) (tab back p u : List ℕ) → tab ≡ seal_table → back ≡ open_table → p ≡ substitutions → u ≡ unsubstitutions → Lent n tab back p u
-lent_all n tab back p u a b c d = record { sealing = λ q. a; opening = λ q. b; forward = λ q. c; backward = λ q. d }
+pub serves_all : (n : ℕ) (t : Tables) → t.seal.now ≡ seal_table → t.unseal.now ≡ open_table → t.forward.now ≡ substitutions → t.backward.now ≡ unsubstitutions → Serves n t
+serves_all n t a b c d = record { sealing = λ q. a; opening = λ q. b; forward = λ q. c; backward = λ q. d }
 
-pub served : (image list tab back p u : List ℕ) (need : ℕ) → Sound image list need → Lent need tab back p u → Served image list tab back p u
-served image list tab back p u need S L = record { need = need; sound = S; lent = L }
-
-pub sound_as : (image list : List ℕ) (n m : ℕ) → n ≡ m → Sound image list n → Sound image list m
-sound_as image list n m e S = subst (Sound image list) e S
+pub served : (image list : List ℕ) (tables : Tables) (need : ℕ) → Sound image list need → Serves need tables → Served image list tables
+served image list tables need S L = record { need = need; sound = S; lent = L }
 
 -- `value_of`
-module _ (image list tab back p u : List ℕ) (G : Served image list tab back p u) where
+module _ (image list : List ℕ) (tables : Tables) (G : Served image list tables) where
   abbrev S : Sound image list G.need
   S = G.sound
 
-  pub run_ready : (room : ℕ) → 47104 ≤ room → Ready image list tab back p u 0 (length image) 0 room
+  pub run_ready : (room : ℕ) → 47104 ≤ room → Ready image list tables 0 (length image) 0 room
   run_ready room h =
       let d = S.within.shallow in
       let l = one_level S.tree in
@@ -91,18 +89,18 @@ module _ (image list tab back p u : List ℕ) (G : Served image list tab back p 
         slots = omega arith;
       }
 
-  module _ (r : Told) (w w1 : List ℕ) (A : Means image list 0 (length image) 0 r w w1) where
+  module _ (r : Result ℕ Refusal) (w w1 : List ℕ) (A : Means image list 0 (length image) 0 r w w1) where
     told : At (mean (real cell_of) (binding_of S.entries) (running_of S.entries) S.tree) 0 r w w1
     unfolding Means
     told = A running S.entries S.tree S.good (whole_stretch image list G.need S)
 
-    pub run_refused : (n : ℕ) (out : List ℕ) → r ≡ Refused n → told_of (Refused n) out ≡ deliver (ran_of cell_of image list) out
+    pub run_refused : (n : Refusal) (out : List ℕ) → r ≡ Err n → told_of (Err n) out ≡ deliver (ran_of cell_of image list) out
     run_refused n out e = refuses n out ∙ sym (ap (λ x. deliver x out) (S.means ∙ refused_of _ 0 n r w w1 told e))
 
-    pub run_small : (n : ℕ) → r ≡ Done n → n ≤ 1024
+    pub run_small : (n : ℕ) → r ≡ Ok n → n ≤ 1024
     run_small n e = (has_of _ 0 n r w w1 told e).small
 
-    pub run_value : (n : ℕ) (out : List ℕ) (d : Delivered) → r ≡ Done n → d ≡ deliver (value (take n w1)) out → d ≡ deliver (ran_of cell_of image list) out
+    pub run_value : (n : ℕ) (out : List ℕ) (d : Delivered) → r ≡ Ok n → d ≡ deliver (value (take n w1)) out → d ≡ deliver (ran_of cell_of image list) out
     run_value n out d e h =
         let H = has_of _ 0 n r w w1 told e in
         h ∙ ap (λ x. deliver x out) (ap value H.bytes ∙ sym (S.means ∙ H.is))

@@ -19,33 +19,33 @@ use Rattle.lists.specs.Entries.Listed.{listed}
 use Rattle.lists.specs.Given.{binding_of, running_of}
 use Rattle.recipe.specs.Run.{ran_of}
 use Rattle.recipe.proofs.Orders.{run_28, run_27, run_means}
-use Rattle.kinds.specs.Tables.{tables_of}
+use Rattle.kinds.specs.Tables.{need_number, tables_of}
 use Rattle.listing.specs.Walk.{taken_in, is_good}
 use Rattle.listing.proofs.Walking.{found_list, found_bad}
-use Rattle.image_check.specs.declared.Verdict.{Verdict}
-use Rattle.image_check.specs.declared.Verdict.TheVariants.{Good, NoForm}
-use Rattle.image_check.specs.Check.{verdict_of}
+use Rattle.kinds.specs.declared.Need.{Need}
+use Rattle.image_check.specs.Check.{needed, verdict_of}
 use Rattle.modes.specs.Cell.{cell_of}
-use Rattle.answers.specs.declared.Told.TheVariants.{Refused}
-use Rattle.answers.specs.Told.{told_of}
+use Rattle.answers.specs.declared.Refusal.TheVariants as refusal
+use Rattle.std.specs.Prelude.{Option, Some, None, Err}
+use Rattle.answers.specs.Told.{table, told_of}
 use Rattle.handing.proofs.Giving.{refuses}
 use Rattle.runner.specs.Sound.{Sound}
 
-no_form : {n : ℕ} → NoForm ≡ Good n → ⊥
-no_form e = let z : ◌≡◌ {A = ℕ} 0 1 = cc in omega arith
+same_need : {n m : ℕ} → ◌≡◌ {A = Option ℕ} (Some n) (Some m) → n ≡ m
+same_need e = cc
 
-same_good : {n m : ℕ} → Good n ≡ Good m → n ≡ m
-same_good e = cc
+no_need : {n : ℕ} → ◌≡◌ {A = Option ℕ} None (Some n) → ⊥
+no_need e = let z : ◌≡◌ {A = ℕ} 0 1 = cc in omega arith
 
 -- the tree that a verdict speaks of
-found_tree : (i : Image) (n : ℕ) → verdict_of i ≡ Good n → (t : Tree) × (i ≡ image t) × (n ≡ tables_of t)
+found_tree : (i : Image) (n : ℕ) → verdict_of i ≡ Some n → (t : Tree) × (i ≡ image t) × (n ≡ tables_of t)
 unfolding verdict_of
-found_tree (image t) n e = (t, refl, sym (same_good e))
-found_tree no_image n e = absurd (no_form e)
+found_tree (image t) n e = (t, refl, sym (same_need e))
+found_tree no_image n e = absurd (no_need e)
 
-found_none : (i : Image) → verdict_of i ≡ NoForm → i ≡ no_image
+found_none : (i : Image) → verdict_of i ≡ None → i ≡ no_image
 unfolding verdict_of
-found_none (image t) e = absurd (no_form (sym e))
+found_none (image t) e = absurd (no_need (sym e))
 found_none no_image e = refl
 
 -- a tree with no `#` means the same whatever `#` is given
@@ -71,21 +71,21 @@ module _ (K L : Binding) (E : Running) where
       ap (λ x. then x (λ x. chosen (side_of x) (mean C K E a) (mean C K E b))) (free c h.0)
       ∙ ap₂ (λ y z. then (mean C L E c) (λ x. chosen (side_of x) y z)) (free a h.1) (free b h.2)
 
-module _ (bytes list : List ℕ) (v : Verdict) (ev : v ≡ verdict_of (image_with false bytes)) where
+module _ (bytes list : List ℕ) (v : Option Need) (ev : needed v ≡ verdict_of (image_with false bytes)) where
   -- 28
-  pub refuses_28 : (out : List ℕ) → v ≡ NoForm → told_of (Refused 28) out ≡ deliver (ran_of cell_of bytes list) out
-  unfolding image_of
-  refuses_28 out e = refuses 28 out ∙ sym (ap (λ x. deliver x out) (run_28 cell_of bytes list (found_none (image_with false bytes) (sym ev ∙ e))))
+  pub refuses_28 : (out : List ℕ) → v ≡ None → told_of (Err refusal.Form) out ≡ deliver (ran_of cell_of bytes list) out
+  unfolding image_of table
+  refuses_28 out e = refuses refusal.Form out ∙ sym (ap (λ x. deliver x out) (run_28 cell_of bytes list (found_none (image_with false bytes) (sym ev ∙ ap needed e))))
 
-  module _ (need : ℕ) (e : v ≡ Good need) where
+  module _ (need : Need) (e : v ≡ Some need) where
     -- 27
-    pub refuses_27 : (out : List ℕ) → is_good (list_of (taken_in true) list) ≡ false → told_of (Refused 27) out ≡ deliver (ran_of cell_of bytes list) out
-    unfolding image_of taken_in
+    pub refuses_27 : (out : List ℕ) → is_good (list_of (taken_in true) list) ≡ false → told_of (Err refusal.List) out ≡ deliver (ran_of cell_of bytes list) out
+    unfolding image_of taken_in table
     refuses_27 out g =
-        let (t, et, en) = found_tree (image_with false bytes) need (sym ev ∙ e) in
-        refuses 27 out ∙ sym (ap (λ x. deliver x out) (run_27 cell_of bytes list t et (found_bad (list_of running list) g)))
+        let (t, et, en) = found_tree (image_with false bytes) (need_number need) (sym ev ∙ ap needed e) in
+        refuses refusal.List out ∙ sym (ap (λ x. deliver x out) (run_27 cell_of bytes list t et (found_bad (list_of running list) g)))
 
-    sound_with : (t : Tree) (es : List Entry) → Bytes bytes → image_with false bytes ≡ image t → need ≡ tables_of t → list_of running list ≡ listed es → Sound bytes list need
+    sound_with : (t : Tree) (es : List Entry) → Bytes bytes → image_with false bytes ≡ image t → need_number need ≡ tables_of t → list_of running list ≡ listed es → Sound bytes list (need_number need)
     unfolding image_of
     sound_with t es hb et en el =
         let I = image_back false bytes t hb et in
@@ -99,9 +99,9 @@ module _ (bytes list : List ℕ) (v : Verdict) (ev : v ≡ verdict_of (image_wit
           means = run_means cell_of bytes list t et es el ∙ free unbound (binding_of es) (running_of es) t (I.free refl);
         }
 
-    pub is_sound : Bytes bytes → is_good (list_of (taken_in true) list) ≡ true → Sound bytes list need
+    pub is_sound : Bytes bytes → is_good (list_of (taken_in true) list) ≡ true → Sound bytes list (need_number need)
     unfolding taken_in
     is_sound hb g =
-        let (t, et, en) = found_tree (image_with false bytes) need (sym ev ∙ e) in
+        let (t, et, en) = found_tree (image_with false bytes) (need_number need) (sym ev ∙ ap needed e) in
         let (es, el) = found_list (list_of running list) g in
         sound_with t es hb et en el

@@ -10,7 +10,8 @@ use Rattle.lists.specs.Entries.Listed.{listed}
 use Rattle.lists.specs.Given.{binding_of, running_of}
 use Rattle.recipe.specs.Run.{ran_of}
 use Rattle.kinds.specs.Tables.{tables_of}
-use Rattle.lent.specs.Lent.{Lent}
+use Rattle.lent.specs.Lent.{Serves}
+use Rattle.lent.specs.declared.Tables.{Tables}
 use Rattle.modes.specs.Cell.{cell_of}
 
 -- the bytes are a tree's, the list is good, `need` are the tables that the tree's calls need; a run answers what the tree means
@@ -24,7 +25,7 @@ pub record Sound (image list : List ℕ) (need : ℕ) : Type 0 where
   pub means : ran_of cell_of image list ≡ mean (real cell_of) (binding_of entries) (running_of entries) tree
 
 -- and the tables are lent
-pub record Served (image list tab back p u : List ℕ) : Type 0 where
+pub record Served (image list : List ℕ) (tables : Tables) : Type 0 where
   pub need : ℕ
   pub sound : Sound image list need
-  pub lent : Lent need tab back p u
+  pub lent : Serves need tables

@@ -5,11 +5,12 @@ use Prim.Native.Nat.{ℕ, ◌+◌, ◌≤◌}
 use native.Mathlib.Omega.{arith}
 use lib.ListN.{length, take, drop}
 use lib.Seq.{take-take, take-add, drop_at, length-take-le}
+use Rattle.std.specs.Prelude.{Result, Ok, Err}
 use Rattle.common.specs.Answer.{Value, Answer}
 use Rattle.common.specs.Answer.Answer.{value, refused}
-use Rattle.answers.specs.declared.Told.{Told}
-use Rattle.answers.specs.declared.Told.TheVariants.{Done, Refused}
-use Rattle.slots.specs.Slots.{tell_of, Holds, At}
+use Rattle.answers.specs.declared.Refusal.{Refusal}
+use Rattle.answers.specs.Told.{table}
+use Rattle.slots.specs.Slots.{Tells, Holds, At}
 
 -- an answer that is the value of n bytes at o
 pub record Has (x : Answer) (n o : ℕ) (w : List ℕ) : Type 0 where
@@ -19,31 +20,31 @@ pub record Has (x : Answer) (n o : ℕ) (w : List ℕ) : Type 0 where
   pub small : n ≤ 1024
   pub bytes : take n (drop o w) ≡ v
 
-no_done : {n m : ℕ} → Refused n ≡ Done m → ⊥
+no_done : {n : ℕ} {e : Refusal} → ◌≡◌ {A = Result ℕ Refusal} (Err e) (Ok n) → ⊥
 no_done e = let z : ◌≡◌ {A = ℕ} 0 1 = cc in omega arith
 
-same_done : {n m : ℕ} → Done n ≡ Done m → n ≡ m
+same_done : {n m : ℕ} → ◌≡◌ {A = Result ℕ Refusal} (Ok n) (Ok m) → n ≡ m
 same_done e = cc
 
-same_refused : {n m : ℕ} → Refused n ≡ Refused m → n ≡ m
+same_refused : {e f : Refusal} → ◌≡◌ {A = Result ℕ Refusal} (Err e) (Err f) → e ≡ f
 same_refused e = cc
 
-pub has_of : (x : Answer) (o n : ℕ) (r : Told) (w w' : List ℕ) → At x o r w w' → r ≡ Done n → Has x n o w'
-unfolding tell_of Holds
+pub has_of : (x : Answer) (o n : ℕ) (r : Result ℕ Refusal) (w w' : List ℕ) → At x o r w w' → r ≡ Ok n → Has x n o w'
+unfolding Tells Holds
 has_of (value v) o n r w w' A e =
     let en : n ≡ length v = same_done (sym e ∙ A.says) in
     record { v = v; is = refl; len = en; small = omega (arith, en, A.holds.0); bytes = ap (λ m. take m (drop o w')) en ∙ A.holds.1 }
-has_of (refused m) o n r w w' A e = absurd (no_done (sym A.says ∙ e))
+has_of (refused m) o n r w w' A e = absurd (no_done (sym A.says.1 ∙ e))
 
-pub refused_of : (x : Answer) (o n : ℕ) (r : Told) (w w' : List ℕ) → At x o r w w' → r ≡ Refused n → x ≡ refused n
-unfolding tell_of
-refused_of (value v) o n r w w' A e = absurd (no_done (sym e ∙ A.says))
-refused_of (refused m) o n r w w' A e = ap refused (same_refused (sym A.says ∙ e))
+pub refused_of : (x : Answer) (o : ℕ) (e : Refusal) (r : Result ℕ Refusal) (w w' : List ℕ) → At x o r w w' → r ≡ Err e → x ≡ refused (table e)
+unfolding Tells
+refused_of (value v) o e r w w' A q = absurd (no_done (sym q ∙ A.says))
+refused_of (refused m) o e r w w' A q = ap refused (sym A.says.2 ∙ ap table (same_refused (sym A.says.1 ∙ q)))
 
 -- a refusal stands nowhere
-pub at_refused : (n o : ℕ) (x : Answer) (w w' : List ℕ) → x ≡ refused n → take o w' ≡ take o w → At x o (Refused n) w w'
-unfolding tell_of Holds
-at_refused n o x w w' e k = subst (λ y. At y o (Refused n) w w') (sym e) (record { says = refl; kept = k; holds = tt })
+pub at_refused : (e : Refusal) (o : ℕ) (x : Answer) (w w' : List ℕ) → x ≡ refused (table e) → take o w' ≡ take o w → At x o (Err e) w w'
+unfolding Tells Holds
+at_refused e o x w w' q k = subst (λ y. At y o (Err e) w w') (sym q) (record { says = (e, refl, refl); kept = k; holds = tt })
 
 pub kept_down : (o m : ℕ) (x y : List ℕ) → o ≤ m → take m x ≡ take m y → take o x ≡ take o y
 kept_down o m x y h e = sym (take-take o m x h) ∙ ap (take o) e ∙ take-take o m y h
@@ -61,5 +62,5 @@ has_kept x n o m w w' H h hw hw' e =
     record { v = H.v; is = H.is; len = H.len; small = H.small; bytes = bytes_kept o n m w' w h hw' hw e ∙ H.bytes }
 
 -- the same answer, told of an earlier room
-pub at_earlier : (x : Answer) (o : ℕ) (r : Told) (w0 w1 w2 : List ℕ) → take o w1 ≡ take o w0 → At x o r w1 w2 → At x o r w0 w2
+pub at_earlier : (x : Answer) (o : ℕ) (r : Result ℕ Refusal) (w0 w1 w2 : List ℕ) → take o w1 ≡ take o w0 → At x o r w1 w2 → At x o r w0 w2
 at_earlier x o r w0 w1 w2 k A = record { says = A.says; kept = A.kept ∙ k; holds = A.holds }

@@ -1,21 +1,19 @@
 -- A `when` by its condition: where its three records stand, and what is left of it.
 use mathlib.Core.Path.{◌≡◌, refl, ap, sym, ◌∙◌, subst}
 use mathlib.Core.Bool.{true}
-use mathlib.Core.List.{List, [], ◌∷◌, ◌++◌, append_assoc}
+use mathlib.Core.List.{List, [], ◌++◌, append_assoc}
 use Prim.Native.Nat.{ℕ, ◌+◌, ◌-◌, ◌≤◌}
 use native.Mathlib.Omega.{arith}
-use lib.Dec.{eqb}
-use lib.ListN.{length, take, drop, get_or, length-append, length-drop}
-use lib.Seq.{take_at, drop_at, drop-drop, length-take-le}
-use borrow.Author.Tests.{eq-eqb, ne_eqb}
-use Rattle.common.specs.Choice.{pick}
+use lib.ListN.{length, take, drop, length-append, length-drop}
+use lib.Seq.{take_at, drop_at, drop-drop}
+use Rattle.lent.specs.declared.Tables.{Tables}
 use Rattle.tree.specs.Tree.{Tree}
 use Rattle.tree.specs.Tree.Tree.{when}
 use Rattle.tree.specs.Bounds.{when_kind, depth, Bytes, Proper, Small}
 use Rattle.tree.specs.Names.{Binding, idle}
 use Rattle.tree.proofs.Table.{when_arguments}
-use Rattle.meaning.specs.Mean.{mean, Side, side_of}
-use Rattle.meaning.specs.Mean.Side.{first, second, neither}
+use Rattle.meaning.specs.Mean.{mean, side_of}
+use Rattle.meaning.specs.Mean.Side.{neither}
 use Rattle.meaning.proofs.Within.{one_node}
 use Rattle.records.specs.Record.{record_of, front_of}
 use Rattle.records.specs.Record.Front.{front}
@@ -26,80 +24,26 @@ use Rattle.records.proofs.There.{length_record, front_record}
 use Rattle.records.proofs.Back.{decode_back}
 use Rattle.records.proofs.Sizes.{nodes_size, same_item}
 use Rattle.kinds.specs.Tables.{tables_of}
-use Rattle.heads.specs.declared.Head.TheVariants.{Record, Cut}
-use Rattle.heads.specs.Head.{head_of, head_at}
+use Rattle.heads.specs.Head.{head_of, head_at, headed}
 use Rattle.heads.proofs.Heads.{Stands, head_stands}
-use Rattle.answers.specs.declared.Told.{Told}
-use Rattle.answers.specs.declared.Told.TheVariants.{Done, Refused}
+use Rattle.answers.specs.declared.Refusal.{Refusal}
+use Rattle.std.specs.Prelude.{Bool, false, Option, Some, None, Result, Ok, Err}
 use Rattle.slots.specs.Slots.{At}
 use Rattle.slots.proofs.Standing.{Has, has_of, refused_of}
 use Rattle.evaluating.specs.Stretch as evaluating
-use Rattle.evaluating.specs.Stretch.{Stretch, Means}
+use Rattle.evaluating.specs.Stretch.{Stretch, Means, side_by}
 use Rattle.folding.specs.TopDown.{choice_of, kind_of}
 use Rattle.folding.proofs.TopDown.{append_none, Open, first_side, second_side}
 use Rattle.folding.proofs.Parts.{Held, decoded_held, head_there}
 use Rattle.ways.specs.declared.Way.{Way}
 use Rattle.ways.specs.declared.Way.TheVariants as way
-use Rattle.ways.specs.Ways.{the_calls, bound_by, ACall, Goes, GoesSo, Choosing, side_number}
+use Rattle.ways.specs.Ways.{the_calls, bound_by, ACall, Goes, GoesSo, Choosing}
 use Rattle.ways.proofs.Evaluated.{encode_decodes, answer_of_lem, eval_ready, first_deep, first_proper, first_small, first_within}
 use Rattle.ways.proofs.Staying.{as_call}
 
 -- of whatever tree stands there
 pub goes_so : (K : Binding) (s : List ℕ) (t : Tree) (n : ℕ) (r : Way) (w : List ℕ) → decode true 16 s ≡ item t n → Goes K s t r w → GoesSo K s r w
 goes_so K s t n r w e G = λ t' n' e'. subst (λ t. Goes K s t r w) (same_item (sym e ∙ e')) G
-
--- the ways of `chosen`
-one_byte : (w : List ℕ) → 1 ≤ length w → take 1 w ≡ get_or w 0 0 ∷ []
-one_byte [] h = absurd (omega arith)
-one_byte (x ∷ w) h = refl
-
-module _ (w : List ℕ) (n : ℕ) where
-  byte_side : n ≡ 1 → n ≤ length w → side_of (take n w) ≡ pick (eqb (get_or w 0 0) 0x01) first (pick (eqb (get_or w 0 0) 0x00) second neither)
-  unfolding side_of
-  byte_side e h = ap (λ m. side_of (take m w)) e ∙ ap side_of (one_byte w (omega arith))
-
-  pub chosen_first : n ≡ 1 → n ≤ length w → get_or w 0 0 ≡ 0x01 → 1 ≡ side_number (side_of (take n w))
-  unfolding side_number pick
-  chosen_first e h b = sym (ap side_number (byte_side e h) ∙ rw (eq-eqb (get_or w 0 0) 0x01 b))
-
-  pub chosen_second : n ≡ 1 → n ≤ length w → (get_or w 0 0 ≡ 0x01 → ⊥) → get_or w 0 0 ≡ 0x00 → 2 ≡ side_number (side_of (take n w))
-  unfolding side_number pick
-  chosen_second e h z b = sym (ap side_number (byte_side e h) ∙ rw (ne_eqb (get_or w 0 0) 0x01 z, eq-eqb (get_or w 0 0) 0x00 b))
-
-  pub chosen_neither : n ≡ 1 → n ≤ length w → (get_or w 0 0 ≡ 0x01 → ⊥) → (get_or w 0 0 ≡ 0x00 → ⊥) → 0 ≡ side_number (side_of (take n w))
-  unfolding side_number pick
-  chosen_neither e h z b = sym (ap side_number (byte_side e h) ∙ rw (ne_eqb (get_or w 0 0) 0x01 z, ne_eqb (get_or w 0 0) 0x00 b))
-
-not_one : (v : List ℕ) → (length v ≡ 1 → ⊥) → 0 ≡ side_number (side_of v)
-unfolding side_of side_number
-not_one [] z = refl
-not_one (x ∷ []) z = absurd (z refl)
-not_one (x ∷ (y ∷ r)) z = refl
-
-pub chosen_none : (w : List ℕ) (n : ℕ) → n ≤ length w → (n ≡ 1 → ⊥) → 0 ≡ side_number (side_of (take n w))
-chosen_none w n h z = not_one (take n w) (λ e. z (sym (length_take_is n w h) ∙ e))
-  where
-    length_take_is : (n : ℕ) (w : List ℕ) → n ≤ length w → length (take n w) ≡ n
-    length_take_is n w h = length-take-le n w h
-
--- a side by its number
-pub number_first : (s : Side) → 1 ≡ side_number s → s ≡ first
-unfolding side_number
-number_first first e = refl
-number_first second e = absurd (omega arith)
-number_first neither e = absurd (omega arith)
-
-pub number_second : (s : Side) → 2 ≡ side_number s → s ≡ second
-unfolding side_number
-number_second first e = absurd (omega arith)
-number_second second e = refl
-number_second neither e = absurd (omega arith)
-
-pub number_neither : (s : Side) (n : ℕ) → n ≡ side_number s → (n ≡ 1 → ⊥) → (n ≡ 2 → ⊥) → s ≡ neither
-unfolding side_number
-number_neither first n e y z = absurd (y e)
-number_neither second n e y z = absurd (z e)
-number_neither neither n e y z = refl
 
 -- a record at a place
 module _ (s : List ℕ) (x : ℕ) (t : Tree) (r : List ℕ) (e : drop x s ≡ encode t ++ r) where
@@ -131,11 +75,11 @@ module _ (s : List ℕ) (x : ℕ) (t : Tree) (r : List ℕ) (e : drop x s ≡ en
     alone_at : (y : ℕ) → y ≡ x + length (encode t) → decode true 16 (take (y - x) (drop x s)) ≡ item t (length (encode t))
     alone_at y h = ap (decode true 16) (bytes_at y h ∙ sym (append_none (encode t))) ∙ encode_decodes t [] p m d
 
-    there_at : head_at s x ≡ Cut → ⊥
+    there_at : head_at s x ≡ None → ⊥
     unfolding head_at
     there_at c = head_there true 16 (drop x s) t (length (encode t)) c decodes_at
 
-    size_at : (k n : ℕ) → head_at s x ≡ Record k n → length (encode t) ≡ 4 + n
+    size_at : (k n : ℕ) → head_at s x ≡ headed k n → length (encode t) ≡ 4 + n
     size_at k n h =
         let S : Stands s x k n = head_stands s x k n h in
         let H : Held (decode true 15) k S.held t (length (encode t)) = decoded_held true 16 (drop x s) k S.held t (length (encode t)) S.is decodes_at in
@@ -147,7 +91,7 @@ past_head : (k : ℕ) (p r : List ℕ) → drop 4 (record_of k p ++ r) ≡ p ++ 
 unfolding record_of
 past_head k p r = refl
 
-module _ (s list tab back p u : List ℕ) (e room : ℕ) (X : Choosing s list tab back p u e room) (hs : Bytes s) where
+module _ (s list : List ℕ) (tables : Tables) (e room : ℕ) (X : Choosing s list tables e room) (hs : Bytes s) where
   abbrev C : Tree
   C = X.condition
 
@@ -214,11 +158,11 @@ module _ (s list tab back p u : List ℕ) (e room : ℕ) (X : Choosing s list ta
   at_n : drop (4 + length (encode C) + length (encode Y)) s ≡ encode N ++ r
   at_n = rest_at s (4 + length (encode C)) Y (encode N ++ r) at_y
 
-  pub condition_there : head_at s 4 ≡ Cut → ⊥
+  pub condition_there : head_at s 4 ≡ None → ⊥
   condition_there q = there_at s 4 C _ at_c proper_all.0 small_all.0 deep_c q
 
   -- where the condition ends
-  module _ (k n : ℕ) (eh : head_at s 4 ≡ Record k n) where
+  module _ (k n : ℕ) (eh : head_at s 4 ≡ headed k n) where
     size_c : length (encode C) ≡ 4 + n
     size_c = size_at s 4 C _ at_c proper_all.0 small_all.0 deep_c k n eh
 
@@ -228,7 +172,7 @@ module _ (s list tab back p u : List ℕ) (e room : ℕ) (X : Choosing s list ta
     at_yes : drop (8 + n) s ≡ encode Y ++ (encode N ++ r)
     at_yes = ap (λ i. drop i s) yes_is ∙ at_y
 
-    pub yes_there : head_at s (8 + n) ≡ Cut → ⊥
+    pub yes_there : head_at s (8 + n) ≡ None → ⊥
     yes_there q = there_at s (8 + n) Y _ at_yes proper_all.1 small_all.1 deep_y q
 
     pub yes_within : 8 + n ≤ length s
@@ -249,11 +193,11 @@ module _ (s list tab back p u : List ℕ) (e room : ℕ) (X : Choosing s list ta
     unfolding tables_of
     tables_n = omega arith
 
-    pub condition_ready : evaluating.Ready s list tab back p u 4 (8 + n) 0 room
-    condition_ready = eval_ready s list tab back p u C 4 (8 + n) (tables_of T) room condition_stretch deep_c tables_c X.rooms
+    pub condition_ready : evaluating.Ready s list tables 4 (8 + n) 0 room
+    condition_ready = eval_ready s list tables C 4 (8 + n) (tables_of T) room condition_stretch deep_c tables_c X.rooms
 
     -- where the first side ends
-    module _ (j m : ℕ) (ey : head_at s (8 + n) ≡ Record j m) where
+    module _ (j m : ℕ) (ey : head_at s (8 + n) ≡ headed j m) where
       size_y : length (encode Y) ≡ 4 + m
       size_y = size_at s (8 + n) Y _ at_yes proper_all.1 small_all.1 deep_y j m ey
 
@@ -275,7 +219,7 @@ module _ (s list tab back p u : List ℕ) (e room : ℕ) (X : Choosing s list ta
       e_within : e ≤ length s
       e_within = first_within s T e hs X.is
 
-      module _ (hl : Bytes list) (q : Told) (w w' : List ℕ) (M : Means s list 4 (8 + n) 0 q w w') where
+      module _ (hl : Bytes list) (q : Result ℕ Refusal) (w w' : List ℕ) (M : Means s list 4 (8 + n) 0 q w w') where
         abbrev K : Binding
         K = bound_by list
 
@@ -293,11 +237,11 @@ module _ (s list tab back p u : List ℕ) (e room : ℕ) (X : Choosing s list ta
             (as_call K s T e when_kind (length P) hs X.is (ap head_of f) 3 (sym when_arguments) (λ z. omega arith) X.none o))
 
         -- no value: both sides stay
-        pub open_way : (m : ℕ) → q ≡ Refused m → (v : List ℕ) → GoesSo K s (way.Call 0x0014 3 e) v
+        pub open_way : (m : Refusal) → q ≡ Err m → (v : List ℕ) → GoesSo K s (way.Call 0x0014 3 e) v
         unfolding choice_of
         open_way m eq v = call (ap choice_of (refused_of (mean the_calls K idle C) 0 m q w w' answer eq)) v
 
-        module _ (l : ℕ) (eq : q ≡ Done l) where
+        module _ (l : ℕ) (eq : q ≡ Ok l) where
           has : Has (mean the_calls K idle C) l 0 w'
           has = has_of (mean the_calls K idle C) 0 l q w w' answer eq
 
@@ -308,14 +252,14 @@ module _ (s list tab back p u : List ℕ) (e room : ℕ) (X : Choosing s list ta
           pub slot_within : 1024 ≤ length w' → l ≤ length w'
           slot_within h = let a = has.small in omega arith
 
-          pub first_way : (i : ℕ) → i ≡ side_number (side_of (take l w')) → i ≡ 1 → (v : List ℕ) → GoesSo K s (way.Side (8 + n) (8 + n + 4 + m)) v
-          unfolding Goes
+          pub first_way : (i : Option Bool) → side_by i ≡ side_of (take l w') → i ≡ Some true → (v : List ℕ) → GoesSo K s (way.Side (8 + n) (8 + n + 4 + m)) v
+          unfolding Goes side_by
           first_way i ei z v =
               goes_so K s T e (way.Side (8 + n) (8 + n + 4 + m)) v X.is
               (record {
                 side = Y;
                 used = length (encode Y);
-                folds = first_side the_calls K C Y N (choice ∙ number_first (side_of (take l w')) (sym z ∙ ei));
+                folds = first_side the_calls K C Y N (choice ∙ sym ei ∙ ap side_by z);
                 is = alone_at s (8 + n) Y (encode N ++ r) at_yes proper_all.1 small_all.1 deep_y (8 + n + 4 + m) no_is;
                 start = omega arith;
                 order = omega arith;
@@ -323,14 +267,14 @@ module _ (s list tab back p u : List ℕ) (e room : ℕ) (X : Choosing s list ta
                 tables = tables_y;
               })
 
-          pub second_way : (i : ℕ) → i ≡ side_number (side_of (take l w')) → i ≡ 2 → (v : List ℕ) → GoesSo K s (way.Side (8 + n + 4 + m) e) v
-          unfolding Goes
+          pub second_way : (i : Option Bool) → side_by i ≡ side_of (take l w') → i ≡ Some false → (v : List ℕ) → GoesSo K s (way.Side (8 + n + 4 + m) e) v
+          unfolding Goes side_by
           second_way i ei z v =
               goes_so K s T e (way.Side (8 + n + 4 + m) e) v X.is
               (record {
                 side = N;
                 used = length (encode N);
-                folds = second_side the_calls K C Y N (choice ∙ number_second (side_of (take l w')) (sym z ∙ ei));
+                folds = second_side the_calls K C Y N (choice ∙ sym ei ∙ ap side_by z);
                 is = alone_at s (8 + n + 4 + m) N r at_no proper_all.2 small_all.2 deep_n e e_is;
                 start = omega arith;
                 order = let a = e_is in omega arith;
@@ -338,5 +282,6 @@ module _ (s list tab back p u : List ℕ) (e room : ℕ) (X : Choosing s list ta
                 tables = tables_n;
               })
 
-          pub neither_way : (i : ℕ) → i ≡ side_number (side_of (take l w')) → (i ≡ 1 → ⊥) → (i ≡ 2 → ⊥) → (v : List ℕ) → GoesSo K s (way.Call 0x0014 3 e) v
-          neither_way i ei y z v = call (choice ∙ number_neither (side_of (take l w')) i ei y z) v
+          pub neither_way : (i : Option Bool) → side_by i ≡ side_of (take l w') → i ≡ None → (v : List ℕ) → GoesSo K s (way.Call 0x0014 3 e) v
+          unfolding side_by
+          neither_way i ei z v = call (choice ∙ sym ei ∙ ap side_by z) v

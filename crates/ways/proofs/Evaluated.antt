@@ -6,6 +6,7 @@ use Prim.Native.Nat.{ℕ, ◌+◌, ◌-◌, ◌≤◌}
 use native.Mathlib.Omega.{arith}
 use lib.ListN.{length, take, drop}
 use lib.Seq.{take_at}
+use Rattle.lent.specs.declared.Tables.{Tables}
 use Rattle.common.proofs.Choices.{true_false}
 use Rattle.tree.specs.Tree.{Tree}
 use Rattle.tree.specs.Bounds.{depth, Bytes, Proper, Small}
@@ -25,10 +26,10 @@ use Rattle.lists.specs.Entries.{Entry, preparing, list_of}
 use Rattle.lists.specs.Entries.Listed.{listed}
 use Rattle.lists.specs.Given.{binding_of}
 use Rattle.kinds.specs.Tables.{tables_of}
-use Rattle.heads.specs.declared.Head.TheVariants.{Record, Cut}
-use Rattle.heads.specs.Head.{head_at}
-use Rattle.answers.specs.declared.Told.{Told}
-use Rattle.answers.specs.declared.Told.TheVariants.{Done, Refused}
+use Rattle.heads.specs.Head.{head_at, headed}
+use Rattle.answers.specs.declared.Refusal.{Refusal}
+use Rattle.answers.specs.Told.{table}
+use Rattle.std.specs.Prelude.{None, Result, Ok, Err}
 use Rattle.slots.specs.Slots.{At}
 use Rattle.slots.proofs.Standing.{Has, has_of, refused_of}
 use Rattle.evaluating.specs.Stretch as evaluating
@@ -61,7 +62,7 @@ unfolding bound_by bound_in
 bound_by_lem list es e = ap bound_in e
 
 -- the evaluator's answer with a preparing list is the meaning with only `#` bound
-pub answer_of_lem : (s list : List ℕ) (es : List Entry) (t : Tree) (a e : ℕ) (r : Told) (w w' : List ℕ) → Bytes list → list_of preparing list ≡ listed es → Stretch s a e t → Means s list a e 0 r w w'
+pub answer_of_lem : (s list : List ℕ) (es : List Entry) (t : Tree) (a e : ℕ) (r : Result ℕ Refusal) (w w' : List ℕ) → Bytes list → list_of preparing list ≡ listed es → Stretch s a e t → Means s list a e 0 r w w'
     → At (mean the_calls (bound_by list) idle t) 0 r w w'
 unfolding Means the_calls
 answer_of_lem s list es t a e r w w' hl el S M =
@@ -100,39 +101,39 @@ module _ (s : List ℕ) (t : Tree) (n : ℕ) (hs : Bytes s) (is : decode true 16
       less n = omega arith
 
 -- what the evaluator asks
-pub eval_ready : (s list tab back p u : List ℕ) (t : Tree) (a e need room : ℕ) → Stretch s a e t → depth t ≤ 16 → tables_of t ≤ need → Rooms need list tab back p u room
-    → evaluating.Ready s list tab back p u a e 0 room
-eval_ready s list tab back p u t a e need room S d h R =
+pub eval_ready : (s list : List ℕ) (tables : Tables) (t : Tree) (a e need room : ℕ) → Stretch s a e t → depth t ≤ 16 → tables_of t ≤ need → Rooms need list tables room
+    → evaluating.Ready s list tables a e 0 room
+eval_ready s list tables t a e need room S d h R =
     let r = R.slots in
     record { tree = t; stretch = S; taken = preparing; entries = R.entries; good = R.is_list; need = need; enough = h; lent = R.lent; slots = omega arith }
 
 -- the head of the record that stands first
-module _ (s list tab back p u : List ℕ) (room : ℕ) (R : Ready s list tab back p u room) where
-  pub head_is_there : head_at s 0 ≡ Cut → ⊥
+module _ (s list : List ℕ) (tables : Tables) (room : ℕ) (R : Ready s list tables room) where
+  pub head_is_there : head_at s 0 ≡ None → ⊥
   head_is_there e = head_there true 16 s R.tree R.used e R.is
 
-  pub head_used : (k n : ℕ) → head_at s 0 ≡ Record k n → R.used ≡ 4 + n
+  pub head_used : (k n : ℕ) → head_at s 0 ≡ headed k n → R.used ≡ 4 + n
   head_used k n e =
       let (q, l, ef, H) = head_held true 16 s k n R.tree R.used e R.is in
       omega (arith, H.takes)
 
-  pub whole_stretch : (k n : ℕ) → Bytes s → head_at s 0 ≡ Record k n → Stretch s 0 (4 + n) R.tree
+  pub whole_stretch : (k n : ℕ) → Bytes s → head_at s 0 ≡ headed k n → Stretch s 0 (4 + n) R.tree
   whole_stretch k n hs e = subst (λ m. Stretch s 0 m R.tree) (head_used k n e) (first_stretch s R.tree R.used hs R.is)
 
-  pub whole_ready : (k n : ℕ) → Bytes s → head_at s 0 ≡ Record k n → evaluating.Ready s list tab back p u 0 (4 + n) 0 room
+  pub whole_ready : (k n : ℕ) → Bytes s → head_at s 0 ≡ headed k n → evaluating.Ready s list tables 0 (4 + n) 0 room
   whole_ready k n hs e =
-      eval_ready s list tab back p u R.tree 0 (4 + n) (tables_of R.tree) room (whole_stretch k n hs e) (first_deep s R.tree R.used hs R.is) (omega arith) R.rooms
+      eval_ready s list tables R.tree 0 (4 + n) (tables_of R.tree) room (whole_stretch k n hs e) (first_deep s R.tree R.used hs R.is) (omega arith) R.rooms
 
-  module _ (k n : ℕ) (hs : Bytes s) (hl : Bytes list) (eh : head_at s 0 ≡ Record k n) (r : Told) (w w' : List ℕ) (M : Means s list 0 (4 + n) 0 r w w') where
+  module _ (k n : ℕ) (hs : Bytes s) (hl : Bytes list) (eh : head_at s 0 ≡ headed k n) (r : Result ℕ Refusal) (w w' : List ℕ) (M : Means s list 0 (4 + n) 0 r w w') where
     pub whole_answer : At (mean the_calls (bound_by list) idle R.tree) 0 r w w'
     whole_answer = answer_of_lem s list R.rooms.entries R.tree 0 (4 + n) r w w' hl R.rooms.is_list (whole_stretch k n hs eh) M
 
     -- a value
-    pub whole_constant : (l : ℕ) → r ≡ Done l → AConstant (bound_by list) R.tree l w'
+    pub whole_constant : (l : ℕ) → r ≡ Ok l → AConstant (bound_by list) R.tree l w'
     whole_constant l e =
         let H : Has (mean the_calls (bound_by list) idle R.tree) l 0 w' = has_of (mean the_calls (bound_by list) idle R.tree) 0 l r w w' whole_answer e in
         record { held = H.v; bytes = constant_bytes the_calls (bound_by list) R.tree H.v H.is; size = sym H.len; stands = H.bytes }
 
     -- or none
-    pub whole_none : (m : ℕ) → r ≡ Refused m → NoValue (mean the_calls (bound_by list) idle R.tree)
-    whole_none m e = refusal_none _ m (refused_of (mean the_calls (bound_by list) idle R.tree) 0 m r w w' whole_answer e)
+    pub whole_none : (m : Refusal) → r ≡ Err m → NoValue (mean the_calls (bound_by list) idle R.tree)
+    whole_none m e = refusal_none _ (table m) (refused_of (mean the_calls (bound_by list) idle R.tree) 0 m r w w' whole_answer e)

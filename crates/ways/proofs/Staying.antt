@@ -18,8 +18,7 @@ use Rattle.records.specs.Encode.{encode}
 use Rattle.records.specs.Decode.{decode}
 use Rattle.records.specs.Decode.Item.{item}
 use Rattle.kinds.specs.Tables.{tables_for, tables_of}
-use Rattle.heads.specs.declared.Head.TheVariants.{Record}
-use Rattle.heads.specs.Head.{head_at}
+use Rattle.heads.specs.Head.{head_at, headed}
 use Rattle.heads.proofs.Heads.{Stands, head_stands}
 use Rattle.folding.specs.TopDown.{arguments, kind_of, folded_all}
 use Rattle.folding.specs.Parts.{Parts}
@@ -106,7 +105,7 @@ others_open K (four k a b c d) z = tt
 others_open K (when c a b) z = absurd (z refl)
 
 -- a record of kind k with n bytes of payload that was decoded
-module _ (K : Binding) (s : List ℕ) (t : Tree) (used k n : ℕ) (hs : Bytes s) (is : decode true 16 s ≡ item t used) (eh : head_at s 0 ≡ Record k n) where
+module _ (K : Binding) (s : List ℕ) (t : Tree) (used k n : ℕ) (hs : Bytes s) (is : decode true 16 s ≡ item t used) (eh : head_at s 0 ≡ headed k n) where
   S : Stands s 0 k n
   S = head_stands s 0 k n eh
 

@@ -4,8 +4,7 @@ use Rattle.common.specs.Answer.{Value}
 use Rattle.tree.specs.Tree.{Tree}
 use Rattle.tree.specs.Tree.Tree.{when}
 use Rattle.tree.specs.Names.{Binding, unbound, idle}
-use Rattle.meaning.specs.Mean.{Calls, mean, Side}
-use Rattle.meaning.specs.Mean.Side.{first, second, neither}
+use Rattle.meaning.specs.Mean.{Calls, mean}
 use Rattle.meaning.specs.Folded.{NoValue}
 use Rattle.meaning.specs.Real.{real}
 use Rattle.meaning.specs.Fold.{fold}
@@ -18,7 +17,8 @@ use Rattle.lists.specs.Entries.{Entry, Listed, preparing, list_of}
 use Rattle.lists.specs.Entries.Listed.{listed, bad_list}
 use Rattle.lists.specs.Given.{binding_of}
 use Rattle.kinds.specs.Tables.{tables_of}
-use Rattle.lent.specs.Lent.{Lent}
+use Rattle.lent.specs.declared.Tables.{Tables}
+use Rattle.lent.specs.Lent.{Serves}
 use Rattle.folding.specs.TopDown.{folded_all}
 use Rattle.folding.specs.Parts.{Parts}
 use Rattle.ways.specs.declared.Way.{Way}
@@ -41,18 +41,18 @@ tables_all [] = 0
 tables_all (t ∷ ts) = max (tables_of t) (tables_all ts)
 
 -- a good list, tables for what is needed, and slots for the evaluator's 16 levels
-pub record Rooms (need : ℕ) (list tab back p u : List ℕ) (room : ℕ) : Type 0 where
+pub record Rooms (need : ℕ) (list : List ℕ) (tables : Tables) (room : ℕ) : Type 0 where
   pub entries : List Entry
   pub is_list : list_of preparing list ≡ listed entries
-  pub lent : Lent need tab back p u
+  pub lent : Serves need tables
   pub slots : 47104 ≤ room
 
 -- one record stands first
-pub record Ready (s list tab back p u : List ℕ) (room : ℕ) : Type 0 where
+pub record Ready (s list : List ℕ) (tables : Tables) (room : ℕ) : Type 0 where
   pub tree : Tree
   pub used : ℕ
   pub is : decode true 16 s ≡ item tree used
-  pub rooms : Rooms (tables_of tree) list tab back p u room
+  pub rooms : Rooms (tables_of tree) list tables room
   pub short : length s ≤ 12288
 
 -- its value stands in the first slot
@@ -102,16 +102,10 @@ abbrev pub GoesSo : Binding → List ℕ → Way → List ℕ → Type 0
 GoesSo K s r work = (t : Tree) (n : ℕ) → decode true 16 s ≡ item t n → Goes K s t r work
 
 -- a `when` without a value stands first, up to e
-pub record Choosing (s list tab back p u : List ℕ) (e room : ℕ) : Type 0 where
+pub record Choosing (s list : List ℕ) (tables : Tables) (e room : ℕ) : Type 0 where
   pub condition : Tree
   pub yes : Tree
   pub no : Tree
   pub is : decode true 16 s ≡ item (when condition yes no) e
   pub none : NoValue (mean the_calls (bound_by list) idle (when condition yes no))
-  pub rooms : Rooms (tables_of (when condition yes no)) list tab back p u room
-
--- 1 for the first side, 2 for the second, 0 for neither
-unfoldable pub side_number : Side → ℕ
-side_number first = 1
-side_number second = 2
-side_number neither = 0
+  pub rooms : Rooms (tables_of (when condition yes no)) list tables room

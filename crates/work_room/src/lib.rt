@@ -1,36 +1,23 @@
 // The work room that preparing and running borrow (document 01, section 7).
 #![tactic(auto)]
 
-ghost use Rattle.std.specs.Prelude.{◌≡◌, ◌+◌, ◌-◌, ◌≤◌, min, max, length, take, drop};
-ghost use mathlib.Core.List.{◌++◌, foldr};
+ghost use Rattle.std.specs.Prelude.{◌≡◌, ◌+◌, ◌≤◌, min, max, fold, length, replicate};
 ghost use Rattle.recipe.specs.Outcome.{zeroed};
 
-// The largest byte from at up to e: 0 exactly where all are zero. No way out early, so that the loop works on many bytes at once.
-fn largest(work: &[u8], at: usize, e: usize) -> u8
-    requires { (at ≤ e) × (e ≤ length work.now) }
-    ensures { result ≡ foldr max 0 (take (e - at) (drop at work.now)) }
+// The largest byte: 0 exactly where all are zero. No way out early, so that the loop works on many bytes at once.
+fn largest(part: &[u8]) -> u8
+    ensures { result ≡ fold max 0 part.now }
 {
-    let mut x: u8 = 0;
-    let mut i = at;
-    while i < e {
-        let w = work[i];
-        if x < w {
-            x = w;
-        }
-        i += 1;
-    }
-    x
+    part.iter().fold(0, |x, w| x.max(*w))
 }
 
-// The bytes from at up to e zero, all others unchanged.
-fn zero(work: &mut [u8], at: usize, e: usize)
-    requires { (at ≤ e) × (e ≤ length work.old) }
-    ensures { work.new ≡ take at work.old ++ zeroed (e - at) (drop at work.old) }
+// Every byte zero. A stretch that is zero already, as the run before left it, is only read: that is cheaper than writing.
+#[tactic(auto, using(crate::proofs::Maximum::all_zero))]
+fn clean(part: &mut [u8])
+    ensures { part.new ≡ replicate (length part.old) 0 }
 {
-    let mut k = at;
-    while k < e {
-        work[k] = 0;
-        k += 1;
+    if 0 < largest(part) {
+        part.fill(0);
     }
 }
 
@@ -39,23 +26,16 @@ fn end_of(at: usize, n: usize) -> usize
     requires { at ≤ n }
     ensures { result ≡ min (at + 4096) n }
 {
-    if n - at < 4096 {
-        return n;
-    }
-    at + 4096
+    at + (n - at).min(4096)
 }
 
-// Its first n bytes zero, bytes beyond unchanged. A stretch that is zero already, as the run before left it, is only read: that is cheaper than writing.
+// Its first n bytes zero, bytes beyond unchanged.
 pub fn clear(work: &mut [u8], n: usize)
     requires { n ≤ length work.old }
     ensures { work.new ≡ zeroed n work.old }
 {
-    let mut at: usize = 0;
-    while at < n {
+    for at in (0..n).step_by(4096) {
         let e = end_of(at, n);
-        if 0 < largest(work, at, e) {
-            zero(work, at, e);
-        }
-        at = e;
+        clean(&mut work[at..e]);
     }
 }

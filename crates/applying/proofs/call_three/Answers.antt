@@ -6,7 +6,7 @@ pub overflow_sub-f : goal.overflow_sub-f
 overflow_sub-f c = (three_says c.args.k c.requires.0 c.requires.1).high
 
 pub call-requires : goal.call-requires
-call-requires c = lent_number c.args.k c.args.tab.now c.args.back.now c.args.p.now c.args.u.now (three_says c.args.k c.requires.0 c.requires.1) c.requires.2
+call-requires c = lent_number c.args.k c.args.tables.now (three_says c.args.k c.requires.0 c.requires.1) c.requires.2
 
 pub returns : goal.returns
 returns c = as_three c.args.k c.args.a.now c.args.b.now c.args.c.now c.args.out.now _ c.requires.0 c.requires.1 c.call.ensures

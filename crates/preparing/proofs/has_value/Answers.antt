@@ -1,9 +1,8 @@
-use mathlib.Core.Path.{sym, ◌∙◌}
-use Rattle.preparing.proofs.Deciding.{found_some, found_none}
+use mathlib.Core.Path.{ap, ◌∙◌}
+use Rattle.recipe.specs.Prepare.{is_given}
+use Rattle.listing.specs.Find.{stretch_of}
+use Rattle.preparing.proofs.Deciding.{found_given}
 use Rattle.preparing.proofs.has_value.Goals as goal
 
-pub returns-in-At : goal.returns-in-At
-returns-in-At c = found_some c.args.list.now _ c.in-At.start c.in-At.l (sym c.find.ensures ∙ c.in-At.is)
-
-pub returns-in-Nowhere : goal.returns-in-Nowhere
-returns-in-Nowhere c = found_none c.args.list.now _ (sym c.find.ensures ∙ c.in-Nowhere.is)
+pub returns : goal.returns
+returns c = c.is_some.ensures ∙ found_given c.args.list.now c.find.result ∙ ap (λ f. is_given (stretch_of c.args.list.now f)) c.find.ensures

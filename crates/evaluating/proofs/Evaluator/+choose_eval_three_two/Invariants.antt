@@ -1,5 +1,5 @@
 use Prim.Native.Nat.{◌+◌, ◌*◌, ◌-◌}
-use Rattle.evaluating.proofs.+choose_eval_three_two.Given as goal
+use Rattle.evaluating.proofs.Evaluator.+choose_eval_three_two.Given as goal
 
 abbrev pub decreases-choose : goal.decreases-choose
 decreases-choose l = 8 * (l.end - l.start) + 0
