@@ -4,10 +4,13 @@ use mathlib.Core.List.{List, ◌++◌}
 use Prim.Native.Nat.{ℕ, ◌+◌, ◌≤◌, ◌<◌}
 use native.Mathlib.Nat.{zero-add}
 use native.Mathlib.Omega.{arith}
-use lib.ListN.{length, take, drop}
+use lib.ListN.{length, get_or, take, drop}
 use borrow.Author.Tests.{le-leb, lt-leb}
+use Rattle.common.specs.Places.{tab}
 use Rattle.common.specs.Answer.{refusal, deliver}
 use Rattle.common.specs.Answer.Answer.{value, refused}
+use Rattle.common.proofs.Places.{tab_self}
+use Rattle.common.proofs.Runs.{Run, run_whole}
 use Rattle.common.proofs.Choices.{pick_true, pick_false}
 use Rattle.std.proofs.Common.{Ok, Err}
 use Rattle.answers.specs.declared.Refusal.{Refusal}
@@ -28,6 +31,13 @@ lacks v out h = sym (pick_false _ _ _ (lt-leb (length v) (length out) h))
 pub refuses : (r : Refusal) (out : List ℕ) → told_of (Err r) out ≡ deliver (refused (table r)) out
 unfolding told_of number_of number_by count_of deliver refusal
 refuses r out = refl
+
+-- `put` : after i bytes
+pub put_whole : (v out out' : List ℕ) (at i : ℕ) → i ≡ length v → Run (λ j. get_or v j 0) at out i out' → out' ≡ take at out ++ (v ++ drop (at + length v) out)
+put_whole v out out' at i e R =
+    run_whole (λ j. get_or v j 0) at out i out' R
+    ∙ ap (λ n. take at out ++ (tab n (λ j. get_or v j 0) ++ drop (at + n) out)) e
+    ∙ ap (λ t. take at out ++ (t ++ drop (at + length v) out)) (tab_self (length v) v refl)
 
 -- `hand`
 pub hand_out : (v out out' : List ℕ) → out' ≡ take 0 out ++ (v ++ drop (0 + length v) out) → out' ≡ v ++ drop (length v) out

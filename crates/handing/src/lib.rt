@@ -13,7 +13,10 @@ pub fn put(out: &mut [u8], at: usize, v: &[u8])
     requires { at + length v.now ≤ length out.old }
     ensures { out.new ≡ take at out.old ++ (v.now ++ drop (at + length v.now) out.old) }
 {
-    out[at..at + v.len()].copy_from_slice(v);
+    // No copy_from_slice: it is a call of memmove here, a name that the archive for C would need from outside.
+    for i in 0..v.len() {
+        out[at + i] = v[i];
+    }
 }
 
 // A value as it stands.

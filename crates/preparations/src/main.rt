@@ -5,6 +5,8 @@
 // Each row is right only if all bytes of output and work room are as section 7 of document 01 says.
 #![tactic(auto)]
 
+ghost use Rattle.std.specs.Prelude.{◌≤◌, IfOk, vec_len};
+
 mod library;
 
 use library::Fault;
@@ -12,8 +14,10 @@ use std::alloc::{AllocError, Global};
 use std::io;
 use table_rows::{OUT, WORK};
 
-// The bytes that a field spells; - is none.
-fn field(alloc: Global, text: &[u8], most: usize) -> Result<Vec<u8>, AllocError> {
+// The bytes that a field spells, no more than `most` of them; - is none.
+fn field(alloc: Global, text: &[u8], most: usize) -> Result<Vec<u8>, AllocError>
+    ensures within { IfOk result (λ v. vec_len v ≤ most) }
+{
     let text = match text.len() {
         2..=65536 => text,
         _ => &[],

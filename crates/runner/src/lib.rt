@@ -29,6 +29,60 @@ fn value_of(given: &Evaluator, out: &mut [u8], work: &mut [u8]) -> Result<usize,
     handing::hand(&work[..n], out)
 }
 
+// The sealing table alone. This and the next are functions of their own: a function clears all of its locals when it begins, and no run pays for a table that it does not need.
+fn with_sealing(
+    image: &[u8],
+    list: &[u8],
+    out: &mut [u8],
+    work: &mut [u8],
+) -> Result<usize, Refusal>
+    requires { Sound image.now list.now 1 × (47104 ≤ length work.old) }
+    ensures { told_of result out.new ≡ deliver (ran_of cell_of image.now list.now) out.old }
+{
+    let tables = &Tables {
+        seal: &seal_table::table(),
+        unseal: &NO_TABLE,
+        forward: &NO_ROWS,
+        backward: &NO_ROWS,
+    };
+    value_of(
+        &Evaluator {
+            image,
+            list,
+            tables,
+        },
+        out,
+        work,
+    )
+}
+
+// The opening tables too.
+fn with_opening(
+    image: &[u8],
+    list: &[u8],
+    out: &mut [u8],
+    work: &mut [u8],
+) -> Result<usize, Refusal>
+    requires { Sound image.now list.now 2 × (47104 ≤ length work.old) }
+    ensures { told_of result out.new ≡ deliver (ran_of cell_of image.now list.now) out.old }
+{
+    let tables = &Tables {
+        seal: &seal_table::table(),
+        unseal: &open_table::table(),
+        forward: &substitutions::forward(),
+        backward: &substitutions::backward(),
+    };
+    value_of(
+        &Evaluator {
+            image,
+            list,
+            tables,
+        },
+        out,
+        work,
+    )
+}
+
 // Tables are made as far as a call needs them.
 // preparing has the same match: a closure that was lent the tables would tell its caller nothing of the output and the work room.
 fn with_tables(
@@ -59,40 +113,8 @@ fn with_tables(
                 work,
             )
         }
-        Need::Sealing => {
-            let tables = &Tables {
-                seal: &seal_table::table(),
-                unseal: &NO_TABLE,
-                forward: &NO_ROWS,
-                backward: &NO_ROWS,
-            };
-            value_of(
-                &Evaluator {
-                    image,
-                    list,
-                    tables,
-                },
-                out,
-                work,
-            )
-        }
-        Need::Opening => {
-            let tables = &Tables {
-                seal: &seal_table::table(),
-                unseal: &open_table::table(),
-                forward: &substitutions::forward(),
-                backward: &substitutions::backward(),
-            };
-            value_of(
-                &Evaluator {
-                    image,
-                    list,
-                    tables,
-                },
-                out,
-                work,
-            )
-        }
+        Need::Sealing => with_sealing(image, list, out, work),
+        Need::Opening => with_opening(image, list, out, work),
     }
 }
 

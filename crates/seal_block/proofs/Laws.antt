@@ -2,7 +2,7 @@
 use mathlib.Core.Path.{◌≡◌, refl, sym, ap, ◌∙◌, subst}
 use mathlib.Core.List.{List}
 use Prim.Native.Nat.{ℕ, ◌+◌, ◌-◌, ◌*◌, ◌<◌, ◌≤◌}
-use native.Mathlib.Nat.{mul-le-mul_left, mul-suc, mul-zero}
+use native.Mathlib.Nat.{mul-le-mul, mul-le-mul_left, mul-suc, mul-zero}
 use native.Mathlib.Numerals.{add-one}
 use native.Mathlib.Omega.{arith}
 use lib.ListN.{get_or, replicate, get_or-replicate}
@@ -70,6 +70,10 @@ rounds_none c n K s = record { long = refl; done = λ i l. refl; kept = λ j l. 
 -- room for key m + 1 of t
 pub key_room : (c m t l : ℕ) → m ≤ t → c * (t + 1) ≤ l → c * m + c ≤ l
 key_room c m t l h r = omega (arith, mul-le-mul_left c h, (ap (λ x. c * x) (add-one t) ∙ mul-suc c t))
+
+-- the same of a place that is a product, as far as neither factor is too large
+pub product_room : (c a b t l : ℕ) → a ≤ c → b ≤ t → c * (t + 1) ≤ l → a * b + c ≤ l
+product_room c a b t l g h r = omega (arith, mul-le-mul g h, key_room c t t l (omega arith) r)
 
 -- the first key added, the rounds, the last round
 pub seal_is : (c n t : ℕ) (ks s s' s'' s''' : List ℕ) → Walked c n (add_key c (key_at c ks 0)) s s' → Walked c n (λ x. rounds c (keys_of c ks) x (t - 1)) s' s''

@@ -2,14 +2,14 @@
 // Only programs stand on it, so it may allocate.
 #![tactic(auto)]
 
-ghost use Rattle.std.specs.Prelude.{◌≡◌, ◌+◌, ◌*◌, ◌<◌, ◌≤◌, ltb, length, unwrap_or, IfOk, IfSome, if◌then◌else◌, vec_len, ◌++◌, ◌↔◌, IsTrue, take, drop, position, not};
+ghost use Rattle.std.specs.Prelude.{◌≡◌, ◌+◌, ◌*◌, ◌<◌, ◌≤◌, ltb, length, unwrap_or, IfOk, IfSome, if◌then◌else◌, vec_len, ◌++◌, ◌↔◌, IsTrue, take, drop, replicate, position, not};
 ghost use Rattle.std.specs.Iterator.{YieldsFirst, item_count};
 ghost use Rattle.table_rows.specs.Rooms.{all_are, given_in, cleared_in, row_of};
 ghost use Rattle.table_rows.specs.Spelling.{digit_of, pair_of, figure_of, grown_of, number_of, is_blank, is_figure, blank_in, figures_in, is_counted, count_in, runs_of, bytes_of};
 
 use std::alloc::{AllocError, Global};
+use std::io;
 use std::io::Read;
-use std::{io, iter};
 
 // The value of a digit, up to F.
 pub fn digit(b: u8) -> Option<u8>
@@ -159,6 +159,19 @@ impl<const STRICT: bool> Iterator for Runs<'_, STRICT> {
     }
 }
 
+// Puts a run behind these bytes, but no more than `most` stand there then. One byte is cheaper to push than to fill in.
+fn put(bytes: &mut Vec<u8>, run: Run, most: usize) -> Result<(), AllocError>
+    requires { vec_len bytes.old ≤ most }
+    ensures items { IfOk result (λ _. bytes.new.items ≡ take most (bytes.old.items ++ replicate run.count run.byte)) }
+    ensures within { vec_len bytes.new ≤ most }
+{
+    match run.count.min(most - bytes.len()) {
+        1 => bytes.push(run.byte)?,
+        count => bytes.resize(bytes.len() + count, run.byte)?,
+    }
+    Ok(())
+}
+
 // The bytes that a text spells, no more than `most` of them.
 pub fn spelled<const STRICT: bool>(
     alloc: Global,
@@ -168,10 +181,14 @@ pub fn spelled<const STRICT: bool>(
     ensures bytes { IfOk result (λ v. v.items ≡ take most (bytes_of STRICT text.now)) }
     ensures within { IfOk result (λ v. vec_len v ≤ most) }
 {
-    Runs::<STRICT>(text)
-        .flat_map(|run| iter::repeat_n(run.byte, run.count))
-        .take(most)
-        .collect(alloc)
+    let mut bytes = Vec::new(alloc);
+    for run in Runs::<STRICT>(text) {
+        put(&mut bytes, run, most)?;
+        if bytes.len() == most {
+            break;
+        }
+    }
+    Ok(bytes)
 }
 
 // What an output, and what a work room holds before a call.
@@ -179,11 +196,11 @@ pub const OUT: u8 = 0xA5;
 
 pub const WORK: u8 = 0x5A;
 
-// Whether these bytes are all the same one.
+// Whether these bytes are all the same one. No way out early, so that the loop works on many bytes at once.
 pub fn is_all(bytes: &[u8], b: u8) -> bool
     ensures { result ≡ all_are b bytes.now }
 {
-    bytes.iter().all(|x| *x == b)
+    bytes.iter().fold(true, |all, x| all & (*x == b))
 }
 
 // Whether an output holds a value in front and is untouched behind it.

@@ -1,4 +1,4 @@
-use mathlib.Core.Path.{◌≡◌, ◌∙◌}
+use mathlib.Core.Path.{◌≡◌, ap, ◌∙◌}
 use Prim.Native.Nat.{◌+◌, ◌-◌, ◌*◌, ◌/◌}
 use native.Mathlib.Omega.{arith}
 use Rattle.std.specs.Int.{div_ceil}
@@ -14,4 +14,4 @@ div_ceil-requires c = width_lt c.args.c c.requires.0
 
 pub returns : goal.returns
 unfolding blocks_in
-returns c = c.div_ceil.ensures ∙ by_width (λ d. div_ceil c.args.n (8 * d) ≡ (c.args.n + (8 * d - 1)) / (8 * d)) (omega arith) (omega arith) (omega arith) c.args.c c.requires.0
+returns c = c.div_ceil.ensures ∙ ap (λ n. div_ceil n (8 * c.args.c)) (omega arith) ∙ by_width (λ d. div_ceil c.args.n (8 * d) ≡ (c.args.n + (8 * d - 1)) / (8 * d)) (omega arith) (omega arith) (omega arith) c.args.c c.requires.0
